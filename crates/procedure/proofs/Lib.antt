@@ -1,0 +1,6 @@
+mod Namings
+mod Obeys
+mod Levels
+mod Trees
+mod Lowest
+mod Verdicts

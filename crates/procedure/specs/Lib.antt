@@ -1,0 +1,13 @@
+pub mod Kind
+pub mod Operator
+pub mod Types
+pub mod Refusal
+pub mod Limits
+pub mod Layout
+pub mod Table
+pub mod Naming
+pub mod Rules
+pub mod Level
+pub mod Form
+pub mod Tree
+pub mod Formed
