@@ -36,18 +36,18 @@ unless-none true rule o e = (refl, e)
 unless-none false rule o e = absurd (let z : _≡_ {A = ℕ} 0 1 = cc in omega arith)
 
 pub record Holds (t : Table) (n : ℕ) : Type 0 where
-  pub rooted-at : rooted t n ≡ true
-  pub listed-at : listed t n ≡ true
-  pub sorted-at : sorted t n ≡ true
-  pub ordered-at : ordered t n ≡ true
+  pub rooted-at : rooted n (node t n) ≡ true
+  pub listed-at : listed (node t n) ≡ true
+  pub sorted-at : sorted t (node t n) ≡ true
+  pub ordered-at : ordered n (node t n) ≡ true
   pub named-at : named-once n (naming t n) ≡ true
 
 pub holds : (t : Table) (n : ℕ) → broken-rule t n ≡ None → Holds t n
 holds t n e =
-    let p = unless-none (rooted t n) Rooted _ e in
-    let q = unless-none (listed t n) Listed _ (p .1) in
-    let r = unless-none (sorted t n) Sorted _ (q .1) in
-    let s = unless-none (ordered t n) Ordered _ (r .1) in
+    let p = unless-none (rooted n (node t n)) Rooted _ e in
+    let q = unless-none (listed (node t n)) Listed _ (p .1) in
+    let r = unless-none (sorted t (node t n)) Sorted _ (q .1) in
+    let s = unless-none (ordered n (node t n)) Ordered _ (r .1) in
     let u = unless-none (named-once n (naming t n)) NamedOnce _ (s .1) in
     record { rooted-at = p .0; listed-at = q .0; sorted-at = r .0; ordered-at = s .0; named-at = u .0 }
 

@@ -11,3 +11,4 @@ pub mod Level
 pub mod Form
 pub mod Tree
 pub mod Formed
+pub mod RuleText

@@ -9,9 +9,7 @@ use Rattle.procedure.specs.declared.layout.Role.the-variants.{Unused, Operand,
 use Rattle.procedure.specs.declared.naming.Naming.{Naming}
 use Rattle.procedure.specs.declared.naming.Naming.the-variants.{Never, Once, Often}
 use Rattle.procedure.specs.declared.node.Node.{Node}
-use Rattle.procedure.specs.Kind.{kind-of}
-use Rattle.procedure.specs.Layout.{layout}
-use Rattle.procedure.specs.Table.{Table}
+use Rattle.procedure.specs.Table.{Table, layout-of}
 
 abbrev pub is-used : Role → Bool
 is-used Unused = false
@@ -44,7 +42,7 @@ after-node n m l x s =
 -- and after all nodes of a list whose first has the number m
 abbrev pub after-nodes : ℕ → ℕ → List Node → Naming → Naming
 after-nodes n m [] s = s
-after-nodes n m (x ∷ xs) s = after-nodes n (m + 1) xs (after-node n m (layout (kind-of (x .kind))) x s)
+after-nodes n m (x ∷ xs) s = after-nodes n (m + 1) xs (after-node n m (layout-of x) x s)
 
 -- how the table names node n: each reference counts for itself
 abbrev pub naming : Table → ℕ → Naming

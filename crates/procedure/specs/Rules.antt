@@ -21,15 +21,15 @@ use Rattle.procedure.specs.Kind.{kind-of}
 use Rattle.procedure.specs.Limits.{last-name}
 use Rattle.procedure.specs.Naming.{naming, is-once}
 use Rattle.procedure.specs.Operator.{unary-operator-of, binary-operator-of}
-use Rattle.procedure.specs.Table.{Table, node, layout-at, part, is-procedure, is-declaration, is-local, is-statement, is-expression}
+use Rattle.procedure.specs.Table.{Table, node, layout-of, part, is-procedure, is-declaration, is-local, is-statement, is-expression}
 
 -- Node 0 is a procedure, and no other node is.
-abbrev pub rooted : Table → ℕ → Bool
-rooted t n = cond (eqb n 0) (is-procedure (kind-of (node t n .kind))) (not (is-procedure (kind-of (node t n .kind))))
+abbrev pub rooted : ℕ → Node → Bool
+rooted n x = cond (eqb n 0) (is-procedure (kind-of (x .kind))) (not (is-procedure (kind-of (x .kind))))
 
 -- The kind is listed.
-abbrev pub listed : Table → ℕ → Bool
-listed t n = isSome (kind-of (node t n .kind))
+abbrev pub listed : Node → Bool
+listed x = isSome (kind-of (x .kind))
 
 abbrev pub is-name : ℕ → Bool
 is-name n = leb 1 n && leb n last-name
@@ -69,8 +69,8 @@ abbrev pub parts-fit : Table → Layout → Node → Bool
 parts-fit t l x = fits t (l .a) (x .a) && (fits t (l .b) (x .b) && (fits t (l .c) (x .c) && fits t (l .next) (x .next)))
 
 -- Each field has a value of its sort.
-abbrev pub sorted : Table → ℕ → Bool
-sorted t n = values-hold (layout-at t n) (node t n) && parts-fit t (layout-at t n) (node t n)
+abbrev pub sorted : Table → Node → Bool
+sorted t x = values-hold (layout-of x) x && parts-fit t (layout-of x) x
 
 -- an operand m has a smaller number than its operator n; what else n names has a greater one
 abbrev pub in-order : ℕ → Role → ℕ → Bool
@@ -87,8 +87,8 @@ abbrev pub parts-in-order : ℕ → Layout → Node → Bool
 parts-in-order n l x = in-order n (l .a) (x .a) && (in-order n (l .b) (x .b) && (in-order n (l .c) (x .c) && in-order n (l .next) (x .next)))
 
 -- Operands have smaller numbers than their operator; all other parts, and next, have greater numbers than the node naming them.
-abbrev pub ordered : Table → ℕ → Bool
-ordered t n = parts-in-order n (layout-at t n) (node t n)
+abbrev pub ordered : ℕ → Node → Bool
+ordered n x = parts-in-order n (layout-of x) x
 
 -- Every node but 0 is named exactly once.
 abbrev pub named-once : ℕ → Naming → Bool
@@ -99,17 +99,17 @@ abbrev pub unless : Bool → Rule → Option Rule → Option Rule
 unless true rule others = others
 unless false rule others = Some rule
 
--- the first of these rules that node n, so named, breaks
-abbrev pub broken-by : Table → ℕ → Naming → Option Rule
-broken-by t n s =
-    unless (rooted t n) Rooted
-    (unless (listed t n) Listed
-    (unless (sorted t n) Sorted
-    (unless (ordered t n) Ordered
+-- the first of these rules that node n, which is x and so named, breaks
+abbrev pub broken-by : Table → ℕ → Node → Naming → Option Rule
+broken-by t n x s =
+    unless (rooted n x) Rooted
+    (unless (listed x) Listed
+    (unless (sorted t x) Sorted
+    (unless (ordered n x) Ordered
     (unless (named-once n s) NamedOnce None))))
 
 abbrev pub broken-rule : Table → ℕ → Option Rule
-broken-rule t n = broken-by t n (naming t n)
+broken-rule t n = broken-by t n (node t n) (naming t n)
 
 -- no node of the table breaks one of these rules
 abbrev pub Obeys : Table → Type 0

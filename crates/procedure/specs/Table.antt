@@ -24,8 +24,11 @@ blank = record { kind = 0; name = 0; a = 0; b = 0; c = 0; next = 0; lo = pos 0; 
 abbrev pub node : Table → ℕ → Node
 node t n = getD t n blank
 
+abbrev pub layout-of : Node → Layout
+layout-of x = layout (kind-of (x .kind))
+
 abbrev pub layout-at : Table → ℕ → Layout
-layout-at t n = layout (kind-of (node t n .kind))
+layout-at t n = layout-of (node t n)
 
 -- the kind of the node that a reference names: 0 names nothing
 abbrev pub part : Table → ℕ → Option Kind

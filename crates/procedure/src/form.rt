@@ -2,8 +2,9 @@
 ghost use mathlib.Core.Path.{_≡_};
 ghost use Prim.Native.Nat.{ℕ, _<_, _≤_};
 ghost use lib.ListN.{length, getD};
+ghost use Rattle.std.specs.Options.{orOther};
 ghost use Rattle.std.specs.Results.{Cases};
-ghost use Rattle.procedure.specs.Form.{lowest, too-deep, examined, tested, refusal-of};
+ghost use Rattle.procedure.specs.Form.{fault-at, lowest, deep-rule, too-deep, form-fault, tested, refusal-of};
 ghost use Rattle.procedure.specs.Formed.{Formed, Deserved};
 ghost use Rattle.procedure.specs.Level.{level};
 ghost use Rattle.procedure.specs.Naming.{naming};
@@ -48,45 +49,68 @@ pub impl From<FormFault> for Refusal as RefusalFromFormFault {
     }
 }
 
+/// The fault found so far, or else that of node `n`, which comes after.
+fn gather(found: Option<FormFault>, n: usize, rule: Option<Rule>) -> Option<FormFault>
+    requires few { ⌜ n < 1024 ⌝ }
+    ensures lower { λ r. ⌜ r ≡ orOther found (fault-at n rule) ⌝ }
+{
+    let fault = match rule {
+        Some(rule) => Some(FormFault::Broken(rule, n as u16)),
+        None => None,
+    };
+    found.or(fault)
+}
+
 /// The lowest node that breaks a rule on itself and what it names.
-fn find_broken(nodes: &[Node], namings: &[Naming; MAX_NODES]) -> Result<(), FormFault>
+fn lowest_broken(nodes: &[Node], namings: &[Naming; MAX_NODES]) -> Option<FormFault>
     requires few { ⌜ length (now nodes) ≤ 1024 ⌝ }
     requires named { ⌜ ((n : ℕ) → n < 1024 → getD (now namings) n Never ≡ naming (now nodes) n) ⌝ }
-    ensures first { λ r. ⌜ r ≡ lowest (broken-rule (now (nodes .entry))) 0 (length (now (nodes .entry))) ⌝ }
+    ensures found { λ r. ⌜ r ≡ lowest (broken-rule (now (nodes .entry))) (length (now (nodes .entry))) ⌝ }
 {
-    for n in 0..nodes.len() {
-        if let Some(rule) = broken_rule(nodes, n, namings[n]) {
-            return Err(FormFault::Broken(rule, n as u16));
-        }
+    let mut found = None;
+    for (n, node) in nodes.iter().enumerate() {
+        found = gather(found, n, broken_rule(nodes, n, node, namings[n]));
     }
-    Ok(())
+    found
+}
+
+/// The rule that a node on this level breaks if it lies too deep.
+fn deep_rule(level: u16) -> Option<Rule>
+    ensures told { λ r. ⌜ r ≡ deep-rule level ⌝ }
+{
+    if level <= MAX_LEVELS {
+        None
+    } else {
+        Some(Rule::Shallow)
+    }
 }
 
 /// The lowest node that lies too deep.
-fn find_too_deep(nodes: &[Node], levels: &[u16; MAX_NODES]) -> Result<(), FormFault>
+fn lowest_too_deep(nodes: &[Node], levels: &[u16; MAX_NODES]) -> Option<FormFault>
     requires few { ⌜ length (now nodes) ≤ 1024 ⌝ }
     requires measured { ⌜ ((n : ℕ) → n < length (now nodes) → getD (now levels) n 0 ≡ level (now nodes) n) ⌝ }
-    ensures first { λ r. ⌜ r ≡ lowest (too-deep (now (nodes .entry))) 0 (length (now (nodes .entry))) ⌝ }
+    ensures found { λ r. ⌜ r ≡ lowest (too-deep (now (nodes .entry))) (length (now (nodes .entry))) ⌝ }
 {
+    let mut found = None;
     for n in 0..nodes.len() {
-        if levels[n] > MAX_LEVELS {
-            return Err(FormFault::Broken(Rule::Shallow, n as u16));
-        }
+        found = gather(found, n, deep_rule(levels[n]));
     }
-    Ok(())
+    found
 }
 
-/// Whether a table has the form of a procedure, and if not, the rule that its lowest broken node breaks.
-pub fn examine_form(nodes: &[Node]) -> Result<(), FormFault>
-    ensures verdict { λ r. ⌜ r ≡ examined (now (nodes .entry)) ⌝ }
+/// What a table lacks of the form of a procedure: the rule that its lowest broken node breaks.
+pub fn find_form_fault(nodes: &[Node]) -> Option<FormFault>
+    ensures fault { λ r. ⌜ r ≡ form-fault (now (nodes .entry)) ⌝ }
 {
     if nodes.is_empty() || nodes.len() > MAX_NODES {
-        return Err(FormFault::Bulky);
+        return Some(FormFault::Bulky);
     }
     let namings = count_namings(nodes);
-    find_broken(nodes, &namings)?;
+    if let Some(fault) = lowest_broken(nodes, &namings) {
+        return Some(fault);
+    }
     let levels = measure_levels(nodes, &namings);
-    find_too_deep(nodes, &levels)
+    lowest_too_deep(nodes, &levels)
 }
 
 /// The form test: passed, or refused as bulky, or as misshapen at the lowest broken node.
@@ -94,6 +118,8 @@ pub fn test_form(nodes: &[Node]) -> Result<(), Refusal>
     ensures verdict { λ r. ⌜ r ≡ tested (now (nodes .entry)) ⌝ }
     ensures meaning { λ r. ⌜ Cases r (λ _. Formed (now (nodes .entry))) (Deserved (now (nodes .entry))) ⌝ }
 {
-    examine_form(nodes)?;
-    Ok(())
+    match find_form_fault(nodes) {
+        None => Ok(()),
+        Some(fault) => Err(fault.into()),
+    }
 }

@@ -2,9 +2,8 @@
 ghost use mathlib.Core.Path.{_≡_};
 ghost use Prim.Native.Nat.{ℕ, _<_, _≤_};
 ghost use lib.ListN.{length, getD};
-ghost use Rattle.procedure.specs.Kind.{kind-of};
-ghost use Rattle.procedure.specs.Layout.{layout};
 ghost use Rattle.procedure.specs.Naming.{naming, once-more, after-reference, after-node, is-used};
+ghost use Rattle.procedure.specs.Table.{layout-of};
 ghost use Rattle.procedure.specs.declared.naming.Naming.the-variants.{Never};
 use crate::kind::Kind;
 use crate::layout::Layout;
@@ -44,7 +43,7 @@ fn note_reference(namings: &mut [Naming], by: u16, role: Role, target: u16)
 
 /// Notes the references of node `by`.
 fn note_node(namings: &mut [Naming], by: u16, node: &Node)
-    ensures noted { λ _. ⌜ ((n : ℕ) → n < length (now (namings .entry)) → getD (now (namings .exit)) n Never ≡ after-node n by (layout (kind-of (now (node .entry) .kind))) (now (node .entry)) (getD (now (namings .entry)) n Never)) ⌝ }
+    ensures noted { λ _. ⌜ ((n : ℕ) → n < length (now (namings .entry)) → getD (now (namings .exit)) n Never ≡ after-node n by (layout-of (now (node .entry))) (now (node .entry)) (getD (now (namings .entry)) n Never)) ⌝ }
 {
     let layout = Layout::of(Kind::of_number(node.kind));
     note_reference(namings, by, layout.a, node.a);

@@ -1,5 +1,7 @@
 //! The rules of the form that look at a node and what it names.
 ghost use mathlib.Core.Path.{_≡_};
+ghost use Rattle.std.specs.declared.option.Option.the-variants.{Some};
+ghost use Rattle.procedure.specs.RuleText.{rule-word, rule-sentence, rule-text};
 ghost use Rattle.procedure.specs.Rules.{rooted, name-holds, number-holds, values-hold, fits, parts-fit, sorted, in-order, ordered, named-once, broken-by};
 ghost use Rattle.procedure.specs.Table.{node, part};
 use crate::kind::DeclarationKind;
@@ -12,6 +14,7 @@ use crate::naming::Naming;
 use crate::node::Node;
 use crate::operator::BinaryOperator;
 use crate::operator::UnaryOperator;
+use std::fmt;
 
 /// A rule of the form.
 #[derive(Clone, Copy, PartialEq, Eq, Debug)]
@@ -29,6 +32,50 @@ pub enum Rule {
     NamedOnce,
     /// No expression is more than 32 levels deep, and statements nest to 32 levels.
     Shallow,
+}
+
+impl Rule {
+    /// The rule's name.
+    pub fn word(self) -> &'static str
+        ensures worded { λ r. ⌜ now r ≡ rule-word self ⌝ }
+    {
+        match self {
+            Rule::Rooted => "rooted",
+            Rule::Listed => "listed",
+            Rule::Sorted => "sorted",
+            Rule::Ordered => "ordered",
+            Rule::NamedOnce => "named once",
+            Rule::Shallow => "shallow",
+        }
+    }
+
+    /// What the rule asks, in a sentence.
+    pub fn sentence(self) -> &'static str
+        ensures explained { λ r. ⌜ now r ≡ rule-sentence self ⌝ }
+    {
+        match self {
+            Rule::Rooted => "node 0 is a procedure, and no other node is",
+            Rule::Listed => "the kind of a node is one of the listed kinds",
+            Rule::Sorted =>
+                "each field has a value of its sort, and is 0 where its kind does not use it",
+            Rule::Ordered =>
+                "an operand has a smaller number than its operator, and all else that a node names a greater one",
+            Rule::NamedOnce => "every node but 0 is named exactly once",
+            Rule::Shallow =>
+                "an expression is at most 32 levels deep, and statements nest to 32 levels",
+        }
+    }
+}
+
+/// As `ordered: ` and then the sentence.
+pub impl fmt::Display for Rule as RuleDisplay {
+    ghost shown = { λ x. Some (rule-text x) };
+
+    fn fmt<W: fmt::Write>(&self, f: &mut fmt::Formatter<W>) -> fmt::Result {
+        let word = self.word();
+        let sentence = self.sentence();
+        write!(f, "{word}: {sentence}")
+    }
 }
 
 /// The node of a number, or one of no listed kind beyond the table.
@@ -130,26 +177,23 @@ impl Role {
 }
 
 /// Whether node 0 is a procedure, and another is none.
-fn is_rooted(nodes: &[Node], n: usize) -> bool
-    ensures holds { λ r. ⌜ r ≡ rooted (now (nodes .entry)) n ⌝ }
+fn is_rooted(n: usize, node: &Node) -> bool
+    ensures holds { λ r. ⌜ r ≡ rooted n (now (node .entry)) ⌝ }
 {
-    let is_procedure = matches!(
-        Kind::of_number(node_at(nodes, n).kind),
-        Some(Kind::Procedure)
-    );
+    let is_procedure = matches!(Kind::of_number(node.kind), Some(Kind::Procedure));
     if n == 0 { is_procedure } else { !is_procedure }
 }
 
 /// Whether the fields that are no references have values of their sorts.
-fn are_values_sorted(layout: Layout, node: Node) -> bool
-    ensures holds { λ r. ⌜ r ≡ values-hold layout node ⌝ }
+fn are_values_sorted(layout: Layout, node: &Node) -> bool
+    ensures holds { λ r. ⌜ r ≡ values-hold layout (now (node .entry)) ⌝ }
 {
     holds_name(layout.name, node.name) && layout.lo.holds(node.lo) && layout.hi.holds(node.hi)
 }
 
 /// Whether the references have values of their sorts.
-fn are_parts_sorted(nodes: &[Node], layout: Layout, node: Node) -> bool
-    ensures holds { λ r. ⌜ r ≡ parts-fit (now (nodes .entry)) layout node ⌝ }
+fn are_parts_sorted(nodes: &[Node], layout: Layout, node: &Node) -> bool
+    ensures holds { λ r. ⌜ r ≡ parts-fit (now (nodes .entry)) layout (now (node .entry)) ⌝ }
 {
     layout.a.fits(nodes, node.a)
         && layout.b.fits(nodes, node.b)
@@ -158,19 +202,17 @@ fn are_parts_sorted(nodes: &[Node], layout: Layout, node: Node) -> bool
 }
 
 /// Whether each field has a value of its sort.
-fn is_sorted(nodes: &[Node], n: usize) -> bool
-    ensures holds { λ r. ⌜ r ≡ sorted (now (nodes .entry)) n ⌝ }
+fn is_sorted(nodes: &[Node], node: &Node) -> bool
+    ensures holds { λ r. ⌜ r ≡ sorted (now (nodes .entry)) (now (node .entry)) ⌝ }
 {
-    let node = node_at(nodes, n);
     let layout = Layout::of(Kind::of_number(node.kind));
     are_values_sorted(layout, node) && are_parts_sorted(nodes, layout, node)
 }
 
 /// Whether what the node names lies on the right side of it.
-fn is_ordered(nodes: &[Node], n: usize) -> bool
-    ensures holds { λ r. ⌜ r ≡ ordered (now (nodes .entry)) n ⌝ }
+fn is_ordered(n: usize, node: &Node) -> bool
+    ensures holds { λ r. ⌜ r ≡ ordered n (now (node .entry)) ⌝ }
 {
-    let node = node_at(nodes, n);
     let layout = Layout::of(Kind::of_number(node.kind));
     layout.a.is_in_order(n, node.a)
         && layout.b.is_in_order(n, node.b)
@@ -186,16 +228,16 @@ fn is_named_once(n: usize, naming: Naming) -> bool
 }
 
 /// The first rule that node `n`, so named, breaks.
-pub fn broken_rule(nodes: &[Node], n: usize, naming: Naming) -> Option<Rule>
-    ensures first { λ r. ⌜ r ≡ broken-by (now (nodes .entry)) n naming ⌝ }
+pub fn broken_rule(nodes: &[Node], n: usize, node: &Node, naming: Naming) -> Option<Rule>
+    ensures first { λ r. ⌜ r ≡ broken-by (now (nodes .entry)) n (now (node .entry)) naming ⌝ }
 {
-    if !is_rooted(nodes, n) {
+    if !is_rooted(n, node) {
         Some(Rule::Rooted)
-    } else if Kind::of_number(node_at(nodes, n).kind).is_none() {
+    } else if Kind::of_number(node.kind).is_none() {
         Some(Rule::Listed)
-    } else if !is_sorted(nodes, n) {
+    } else if !is_sorted(nodes, node) {
         Some(Rule::Sorted)
-    } else if !is_ordered(nodes, n) {
+    } else if !is_ordered(n, node) {
         Some(Rule::Ordered)
     } else if !is_named_once(n, naming) {
         Some(Rule::NamedOnce)
