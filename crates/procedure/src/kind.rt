@@ -2,7 +2,7 @@
 ghost use mathlib.Core.Path.{_≡_};
 ghost use Rattle.procedure.specs.Kind.{kind-of};
 
-#[derive(Clone, Copy, PartialEq, Eq, Debug)]
+#[derive(Clone, Copy)]
 pub enum Kind {
     Procedure,
     Declaration(DeclarationKind),
@@ -10,14 +10,14 @@ pub enum Kind {
     Expression(ExpressionKind),
 }
 
-#[derive(Clone, Copy, PartialEq, Eq, Debug)]
+#[derive(Clone, Copy)]
 pub enum DeclarationKind {
     Parameter,
     Variable,
     Constant,
 }
 
-#[derive(Clone, Copy, PartialEq, Eq, Debug)]
+#[derive(Clone, Copy)]
 pub enum StatementKind {
     Null,
     Assignment,
@@ -28,7 +28,7 @@ pub enum StatementKind {
     Put,
 }
 
-#[derive(Clone, Copy, PartialEq, Eq, Debug)]
+#[derive(Clone, Copy)]
 pub enum ExpressionKind {
     Numeral,
     Name,

@@ -2,7 +2,7 @@
 ghost use mathlib.Core.Path.{_≡_};
 ghost use Rattle.procedure.specs.Operator.{unary-operator-of, binary-operator-of};
 
-#[derive(Clone, Copy, PartialEq, Eq, Debug)]
+#[derive(Clone, Copy)]
 pub enum UnaryOperator {
     Plus,
     Minus,
@@ -10,14 +10,14 @@ pub enum UnaryOperator {
     Not,
 }
 
-#[derive(Clone, Copy, PartialEq, Eq, Debug)]
+#[derive(Clone, Copy)]
 pub enum BinaryOperator {
     Arithmetic(ArithmeticOperator),
     Relational(RelationalOperator),
     Logical(LogicalOperator),
 }
 
-#[derive(Clone, Copy, PartialEq, Eq, Debug)]
+#[derive(Clone, Copy)]
 pub enum ArithmeticOperator {
     Add,
     Subtract,
@@ -27,7 +27,7 @@ pub enum ArithmeticOperator {
     Rem,
 }
 
-#[derive(Clone, Copy, PartialEq, Eq, Debug)]
+#[derive(Clone, Copy)]
 pub enum RelationalOperator {
     Equal,
     NotEqual,
@@ -37,7 +37,7 @@ pub enum RelationalOperator {
     GreaterOrEqual,
 }
 
-#[derive(Clone, Copy, PartialEq, Eq, Debug)]
+#[derive(Clone, Copy)]
 pub enum LogicalOperator {
     And,
     Or,

@@ -50,7 +50,7 @@ impl Rule {
     }
 
     /// What the rule asks, in a sentence.
-    pub fn sentence(self) -> &'static str
+    fn sentence(self) -> &'static str
         ensures explained { λ r. ⌜ now r ≡ rule-sentence self ⌝ }
     {
         match self {

@@ -1,0 +1,4 @@
+pub mod Cuts
+pub mod Decimal
+pub mod Reading
+pub mod ReadBack

@@ -1,0 +1,2 @@
+pub mod Verb
+pub mod Report
