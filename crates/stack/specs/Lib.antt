@@ -1,0 +1,4 @@
+pub mod Tables
+pub mod Acts
+pub mod Stacks
+pub mod Laws
