@@ -16,7 +16,6 @@ use Rattle.procedure.specs.Level.{level, level-by, level-within}
 use Rattle.procedure.specs.Naming.{naming}
 use Rattle.procedure.specs.Rules.{Obeys}
 use Rattle.procedure.specs.Table.{Table, expression-at}
-use Rattle.procedure.specs.Tree.{Names}
 use Rattle.procedure.proofs.Namings.{named-by, namer-within, named-only-by}
 use Rattle.procedure.proofs.Obeys.{Placed, namer-placed}
 

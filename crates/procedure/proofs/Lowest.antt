@@ -1,5 +1,5 @@
 -- The lowest node at which a rule is broken.
-use mathlib.Core.Logic.{_⊎_, inl, inr}
+use mathlib.Core.Logic.{inl, inr}
 use mathlib.Core.Path.{_≡_, refl, sym, ap, _∙_}
 use Prim.Native.Nat.{ℕ, zero, suc, _+_, _<_}
 use native.Mathlib.Numerals.{add-one}
@@ -9,7 +9,7 @@ use Rattle.std.specs.Options.{orOther}
 use Rattle.std.specs.declared.option.Option.{Option}
 use Rattle.std.specs.declared.option.Option.the-variants.{Some, None}
 use Rattle.procedure.specs.declared.form.FormFault.{FormFault}
-use Rattle.procedure.specs.declared.form.FormFault.the-variants.{Bulky, Broken}
+use Rattle.procedure.specs.declared.form.FormFault.the-variants.{Broken}
 use Rattle.procedure.specs.declared.rules.Rule.{Rule}
 use Rattle.procedure.specs.Form.{fault-at, lowest}
 

@@ -1,13 +1,11 @@
 -- What is known of a node that is named once: the one reference that names it, and that there is no other.
 use mathlib.Core.Path.{_≡_, refl, sym, ap, subst, _∙_}
-use mathlib.Core.List.{List, [], _∷_}
 use mathlib.Core.Bool.{Bool, true, false, cond, _&&_}
-use mathlib.Core.Logic.{_⊎_, inl, inr}
+use mathlib.Core.Logic.{inl, inr}
 use Prim.Native.Nat.{ℕ, zero, suc, _+_, _-_, _<_, _≤_}
 use native.Mathlib.Omega.{arith}
 use lib.Dec.{eqb}
-use lib.ListN.{length, getD, drop}
-use borrow.Author.Needs.{needs}
+use lib.ListN.{length, drop}
 use borrow.Author.Tests.{eq-eqb, eqb-true}
 use Rattle.std.proofs.shelf.Lists.{at-drop-more, at-drop-all, getD-past}
 use Rattle.std.proofs.shelf.Tests.{cases-lt}
@@ -16,7 +14,7 @@ use Rattle.procedure.specs.Kind.{kind-of}
 use Rattle.procedure.specs.Layout.{layout}
 use Rattle.procedure.specs.declared.layout.Layout.{Layout}
 use Rattle.procedure.specs.declared.layout.Role.{Role}
-use Rattle.procedure.specs.declared.layout.Role.the-variants.{Unused, Operand, Root, Declarations, Locals, Statements, Alternative, Following}
+use Rattle.procedure.specs.declared.layout.Role.the-variants.{Unused}
 use Rattle.procedure.specs.declared.naming.Naming.{Naming}
 use Rattle.procedure.specs.declared.naming.Naming.the-variants.{Never, Once, Often}
 use Rattle.procedure.specs.declared.node.Node.{Node}

@@ -1,26 +1,16 @@
 -- Where the namer of a node stands, in a table that breaks no rule.
-use mathlib.Core.Path.{_≡_, refl, sym, ap, subst, _∙_}
-use mathlib.Core.Bool.{Bool, true, false, cond, not, _&&_, _||_}
-use mathlib.Core.Logic.{_⊎_, inl, inr}
-use Prim.Native.Nat.{ℕ, zero, suc, _+_, _-_, _<_, _≤_}
+use mathlib.Core.Path.{_≡_, refl, subst}
+use mathlib.Core.Bool.{Bool, true, false, _&&_, _||_}
+use Prim.Native.Nat.{ℕ, zero, suc, _-_, _<_}
 use native.Mathlib.Omega.{arith}
-use lib.Dec.{eqb, ltb}
-use lib.ListN.{length}
-use borrow.Author.Needs.{needs}
-use borrow.Author.Tests.{eqb-true, ltb-true}
+use lib.Dec.{eqb}
+use borrow.Author.Tests.{ltb-true}
 use Rattle.std.proofs.shelf.Tests.{and-parts}
 use Rattle.std.specs.declared.option.Option.{Option}
-use Rattle.std.specs.declared.option.Option.the-variants.{Some, None}
+use Rattle.std.specs.declared.option.Option.the-variants.{None}
 use Rattle.procedure.specs.declared.kind.Kind.{Kind}
-use Rattle.procedure.specs.declared.kind.Kind.the-variants.{Procedure, Declaration, Statement, Expression}
-use Rattle.procedure.specs.declared.kind.DeclarationKind.the-variants.{Parameter, Variable, Constant}
-use Rattle.procedure.specs.declared.kind.StatementKind.the-variants.{Null, Assignment, If, For, Block, Get, Put}
-use Rattle.procedure.specs.declared.kind.ExpressionKind.the-variants.{Numeral, Name, Unary, Binary}
-use Rattle.procedure.specs.declared.layout.Layout.{Layout}
 use Rattle.procedure.specs.declared.layout.Role.{Role}
 use Rattle.procedure.specs.declared.layout.Role.the-variants.{Unused, Operand, Root, Declarations, Locals, Statements, Alternative, Following}
-use Rattle.procedure.specs.declared.naming.Naming.{Naming}
-use Rattle.procedure.specs.declared.naming.Naming.the-variants.{Never, Once, Often}
 use Rattle.procedure.specs.declared.rules.Rule.{Rule}
 use Rattle.procedure.specs.declared.rules.Rule.the-variants.{Rooted, Listed, Sorted, Ordered, NamedOnce}
 use Rattle.procedure.specs.Kind.{kind-of}
@@ -29,7 +19,7 @@ use Rattle.procedure.specs.Naming.{naming, is-used}
 use Rattle.procedure.specs.Rules.{rooted, listed, sorted, ordered, named-once, unless, broken-rule, Obeys, fits, in-order, values-hold}
 use Rattle.procedure.specs.Table.{Table, node, layout-at, part, expression-at, is-expression, is-declaration, is-local, is-statement}
 use Rattle.procedure.specs.Tree.{Refers, by-a, by-b, by-c, by-next, Names}
-use Rattle.procedure.proofs.Namings.{named-by, namer-within}
+use Rattle.procedure.proofs.Namings.{namer-within}
 
 unless-none : (b : Bool) (rule : Rule) (o : Option Rule) → unless b rule o ≡ None → (b ≡ true) × (o ≡ None)
 unless-none true rule o e = (refl, e)

@@ -1,12 +1,10 @@
 -- A table that breaks no rule is a tree.
-use mathlib.Core.Path.{_≡_, refl, sym, ap, subst, _∙_}
+use mathlib.Core.Path.{_≡_, refl, sym, _∙_}
 use mathlib.Core.Bool.{Bool, true, false}
 use mathlib.Core.Logic.{_⊎_, inl, inr}
 use Prim.Native.Nat.{ℕ, zero, suc, _+_, _-_, _<_, _≤_}
 use native.Mathlib.Omega.{arith}
-use lib.Dec.{eqb}
 use lib.ListN.{length}
-use Rattle.std.proofs.shelf.Tests.{cases-bool, cases-eq}
 use Rattle.procedure.specs.declared.layout.Role.{Role}
 use Rattle.procedure.specs.declared.layout.Role.the-variants.{Unused, Operand, Root, Declarations, Locals, Statements, Alternative, Following}
 use Rattle.procedure.specs.declared.naming.Naming.{Naming}

@@ -2,7 +2,7 @@
 ghost use mathlib.Core.Path.{_≡_};
 ghost use Prim.Native.Nat.{ℕ, _<_, _≤_};
 ghost use lib.ListN.{length, getD};
-ghost use Rattle.procedure.specs.Naming.{naming, once-more, after-reference, after-node, is-used};
+ghost use Rattle.procedure.specs.Naming.{naming, once-more, after-reference, after-node};
 ghost use Rattle.procedure.specs.Table.{layout-of};
 ghost use Rattle.procedure.specs.declared.naming.Naming.the-variants.{Never};
 use crate::kind::Kind;

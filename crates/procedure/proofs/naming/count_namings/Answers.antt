@@ -1,12 +1,11 @@
 -- Each turn notes one node more.
 use mathlib.Core.Path.{refl, ap, sym, _∙_}
-use Prim.Native.Nat.{ℕ, _+_}
+use Prim.Native.Nat.{_+_}
 use native.Mathlib.Omega.{arith}
 use lib.ListN.{drop, getD}
 use Rattle.std.proofs.shelf.Lists.{getD-replicate, at-drop-more, at-drop-all}
 use Rattle.procedure.specs.Naming.{after-nodes}
 use Rattle.procedure.specs.Table.{blank}
-use Rattle.procedure.specs.declared.naming.Naming.{Naming}
 use Rattle.procedure.specs.declared.naming.Naming.the-variants.{Never}
 use Rattle.procedure.proofs.naming.count_namings.Needs as need
 
