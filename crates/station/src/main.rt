@@ -2,11 +2,13 @@
 //!
 //! It is thin. Files are read by `files`, procedures are tested by `procedure`, and each of these promises what it answers;
 //! here stand the commands and the lines that they print. A refusal or an error ends with status 1.
+mod calibrate;
 mod report;
 #[cfg(test)]
 mod tests;
 mod verb;
 
+use calibrate::run_calibrate;
 use files::FileFaultDisplay;
 use files::read_procedure;
 use report::FormReportDisplay;
@@ -21,15 +23,22 @@ use verb::Verb;
 const USAGE: &str = "\
 usage: station COMMAND
 
-  station form FILE   test whether a procedure file has the form of a procedure
-  station help        print this text
+  station form FILE            test whether a procedure file has the form of a procedure
+  station calibrate A H K [N]  print the numbers that wait at a calibrator
+  station help                 print this text
 
 A procedure file has one node a line, in node order: the eight decimal numbers
 kind name a b c next lo hi, separated by blanks. Empty lines, and what follows
 # on a line, are passed over.
 
 form prints 'formed: N nodes', or 'refused: NUMBER WORD at node N' with what that
-means and the rule that is broken. A refusal or an error ends with status 1.";
+means and the rule that is broken.
+
+calibrate prints 'waiting: K' and the first N numbers (20 where N is not given) of a
+square wave of amplitude A, 0 to 8388607, half period H, 1 to 10000, and K numbers,
+0 to 1000000.
+
+A refusal or an error ends with status 1.";
 
 /// The program ends with status 1. What there is to tell has been printed.
 #[derive(Drop)]
@@ -63,6 +72,7 @@ fn run(rt: &LibcRuntime) -> io::Result<bool> {
             [path] => run_form(rt, path.as_str()),
             _ => Ok(false),
         },
+        Ok(Verb::Calibrate) => run_calibrate(rt, operands.as_slice()),
     }
 }
 

@@ -9,6 +9,14 @@ use std::fmt;
 pub enum Verb {
     Help,
     Form,
+    Calibrate,
+}
+
+/// How many words may follow a command.
+#[derive(Clone, Copy)]
+pub struct Operands {
+    pub fewest: usize,
+    pub most: usize,
 }
 
 /// Why a command line asks for nothing that the program does.
@@ -41,29 +49,32 @@ impl Verb {
             Some(Verb::Help)
         } else if word == "form" {
             Some(Verb::Form)
+        } else if word == "calibrate" {
+            Some(Verb::Calibrate)
         } else {
             None
         }
     }
 
-    /// How many words follow the command.
-    pub fn operands(self) -> usize
+    /// How many words may follow the command.
+    pub fn operands(self) -> Operands
         ensures counted { λ r. ⌜ r ≡ operands-of self ⌝ }
     {
         match self {
-            Verb::Help => 0,
-            Verb::Form => 1,
+            Verb::Help => Operands { fewest: 0, most: 0 },
+            Verb::Form => Operands { fewest: 1, most: 1 },
+            Verb::Calibrate => Operands { fewest: 3, most: 4 },
         }
     }
 
-    /// The command, where as many words follow it as it takes.
+    /// The command, where as many words follow it as may.
     pub fn take(self, given: usize) -> Result<Verb, UsageFault>
         ensures counted { λ r. ⌜ r ≡ taken self given ⌝ }
     {
-        let wanted = self.operands();
-        if given < wanted {
+        let operands = self.operands();
+        if given < operands.fewest {
             Err(UsageFault::Missing)
-        } else if wanted < given {
+        } else if operands.most < given {
             Err(UsageFault::Extra)
         } else {
             Ok(self)
