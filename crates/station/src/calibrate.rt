@@ -45,7 +45,10 @@ fn read_operand(rt: &LibcRuntime, name: &str, low: i32, word: &str) -> io::Resul
     match read_number(word.as_bytes(), low, i32::MAX) {
         Ok(number) => Ok(Some(number)),
         Err(NumberFault::NoNumber) => {
-            eprintln!(rt, "station: calibrate: {name}: {word} is no decimal number")?;
+            eprintln!(
+                rt,
+                "station: calibrate: {name}: {word} is no decimal number"
+            )?;
             Ok(None)
         }
         Err(NumberFault::OutOfRange) => {
