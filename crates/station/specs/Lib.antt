@@ -1,2 +1,3 @@
 pub mod Verb
 pub mod Report
+pub mod Calibrate

@@ -1,4 +1,6 @@
 //! `station calibrate A H K [N]`: the numbers that wait at a calibrator.
+ghost use mathlib.Core.Path.{_≡_};
+ghost use Rattle.station.specs.Calibrate.{unsigned-of};
 use files::NumberFault;
 use files::read_number;
 use port::Calibrator;
@@ -11,7 +13,7 @@ use std::io;
 const SHOWN: i32 = 20;
 
 /// Prints how many numbers wait, and the first of them.
-pub fn run_calibrate(rt: &LibcRuntime, operands: &[String]) -> io::Result<bool> {
+pub(crate) fn run_calibrate(rt: &LibcRuntime, operands: &[String]) -> io::Result<bool> {
     let [amplitude, half_period, count, more @ ..] = operands else {
         return Ok(false);
     };
@@ -59,7 +61,9 @@ fn read_operand(rt: &LibcRuntime, name: &str, low: i32, word: &str) -> io::Resul
 }
 
 /// The number, or one that is above every limit where it is below 0.
-fn unsigned(number: i32) -> u32 {
+fn unsigned(number: i32) -> u32
+    ensures held { λ r. ⌜ r ≡ unsigned-of number ⌝ }
+{
     u32::try_from(number).unwrap_or(u32::MAX)
 }
 
