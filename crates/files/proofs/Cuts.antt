@@ -1,15 +1,14 @@
 -- A text cut at its first separator, and its pieces. Assumes nothing.
-use mathlib.Core.Path.{_≡_, refl, sym, ap, _∙_}
-use mathlib.Core.Bool.{Bool, true, false, cond}
-use mathlib.Core.List.{List, [], _∷_, _++_, append-assoc, append-nil}
+use mathlib.Core.Path.{_≡_, refl, sym, _∙_}
+use mathlib.Core.Bool.{true, false}
+use mathlib.Core.List.{[], _∷_, _++_, append-assoc, append-nil}
 use Prim.Native.Nat.{ℕ, _+_, _≤_, _<_}
 use native.Mathlib.Omega.{arith}
 use lib.ListN.{length, getD, take, drop}
-use Rattle.std.proofs.shelf.Lists.{take-more, take-all, at-drop-more, at-drop-all, drop-all}
+use Rattle.std.proofs.shelf.Lists.{take-more, take-all, at-drop-more, at-drop-all}
 use Rattle.std.proofs.shelf.Tests.{cond-both}
 use Rattle.files.specs.declared.scan.Separator.{Separator}
-use Rattle.files.specs.declared.scan.Separator.the-variants.{Blank}
-use Rattle.files.specs.Scan.{Bytes, cuts, before, behind, pieces, filled, words-of}
+use Rattle.files.specs.Scan.{Bytes, cuts, before, behind, pieces}
 
 -- none of the first i bytes is a separator
 abbrev pub Passed : Separator → Bytes → ℕ → Type 0
@@ -56,18 +55,3 @@ pub behind-shorter : (s : Separator) (bs : Bytes) → 0 < length bs → length (
 behind-shorter s [] some = absurd (omega arith)
 behind-shorter s (b ∷ bs) some =
     cond-both (cuts s b) bs (behind s bs) (λ rest. length rest < length (b ∷ bs)) (λ _. omega arith) (λ _. omega (arith, behind-within s bs))
-
-filled-empty : (p : Bytes) (ps : List Bytes) → length p ≡ 0 → filled (p ∷ ps) ≡ filled ps
-filled-empty [] ps none = refl
-filled-empty (b ∷ p) ps none = absurd (omega arith)
-
-filled-word : (p : Bytes) (ps : List Bytes) → (length p ≡ 0 → ⊥) → filled (p ∷ ps) ≡ p ∷ filled ps
-filled-word [] ps some = absurd (some refl)
-filled-word (b ∷ p) ps some = refl
-
--- an empty piece is no word, and any other is
-pub words-pass : (bs : Bytes) → 0 < length bs → length (before Blank bs) ≡ 0 → words-of (behind Blank bs) ≡ words-of bs
-words-pass bs some none = sym (ap filled (pieces-step Blank bs some) ∙ filled-empty _ _ none)
-
-pub words-step : (bs : Bytes) → 0 < length bs → (length (before Blank bs) ≡ 0 → ⊥) → words-of bs ≡ before Blank bs ∷ words-of (behind Blank bs)
-words-step bs some word = ap filled (pieces-step Blank bs some) ∙ filled-word _ _ word

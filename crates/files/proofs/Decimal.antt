@@ -1,44 +1,47 @@
 -- The value of digits, held just above the magnitudes of 32-bit numbers. Assumes nothing.
-use mathlib.Core.Path.{_≡_, refl, sym, ap, _∙_}
-use mathlib.Core.Bool.{Bool, true, false, cond}
+use mathlib.Core.Path.{_≡_, refl, _∙_}
+use mathlib.Core.Bool.{true, false, cond}
 use mathlib.Core.List.{List, [], _∷_}
 use Prim.Native.Nat.{ℕ, zero, suc, min, _+_, _-_, _*_, _≤_, _<_}
 use native.Mathlib.Omega.{arith}
-use lib.ListN.{length, getD, take, drop}
-use Rattle.std.specs.Options.{mapped}
-use Rattle.std.specs.declared.option.Option.the-variants.{Some, None}
-use Rattle.std.proofs.shelf.Lists.{take-all, take-rest, at-drop-more, at-drop-all}
-use Rattle.std.proofs.shelf.Sums.{folded-more}
-use Rattle.std.specs.declared.option.Option.{Option}
-use Rattle.std.proofs.shelf.Tests.{eq-eqb}
-use Rattle.std.proofs.shelf.Ways.{tells}
 use lib.IntN.{ℤ, pos, negsuc, negℤ}
+use lib.ListN.{length, getD, take, drop}
 use mir.Syntax.{w32}
 use mir.Val.{SFits}
-use Rattle.files.specs.Number.{is-digit, all-digits, digits-value, natural-written, number-written, number-within}
+use Rattle.std.specs.Options.{mapped}
+use Rattle.std.specs.declared.option.Option.{Option}
+use Rattle.std.specs.declared.option.Option.the-variants.{Some, None}
+use Rattle.std.proofs.shelf.Lists.{take-all, take-rest, at-drop-more, at-drop-all}
+use Rattle.std.proofs.shelf.Signed.{ints}
+use Rattle.std.proofs.shelf.Sums.{folded-more}
+use Rattle.std.proofs.shelf.Tests.{eq-eqb}
+use Rattle.std.proofs.shelf.Ways.{tells}
 use Rattle.files.specs.Held.{held, held-number}
+use Rattle.files.specs.Number.{is-digit, all-digits, digits-value, natural-written, number-written, number-within}
 
 -- to hold the value on the way changes nothing
 held-more : (n d : ℕ) → held (10 * held n + d) ≡ held (10 * n + d)
 held-more n d = grind arith
 
--- the first i bytes are digits, and value is theirs
-abbrev pub Sofar : List ℕ → ℕ → ℕ → Type 0
-Sofar bs i value = (all-digits bs ≡ all-digits (drop i bs)) × (value ≡ held (digits-value (take i bs)))
-
 pub written : (bs : List ℕ) → (length bs ≡ 0 → ⊥) → natural-written bs ≡ cond (all-digits bs) (Some (digits-value bs)) None
 written [] some = absurd (some refl)
 written (b ∷ bs) some = refl
 
-module _ (bs : List ℕ) (i value : ℕ) (sofar : Sofar bs i value) where
-  pub digits-more : i < length bs → is-digit (getD bs i 0) ≡ true → Sofar bs (i + 1) (held (10 * value + (getD bs i 0 - 48)))
-  digits-more within digit =
-      let rest : all-digits (drop i bs) ≡ all-digits (drop (i + 1) bs) = at-drop-more all-digits bs i 0 within ∙ rw digit refl in
-      let next = folded-more (λ n b. 10 * n + (b - 48)) 0 bs i 0 within in
-      (sofar .0 ∙ rest, rw (sofar .1, held-more, next) refl)
+-- the first i bytes are digits, and value is theirs
+abbrev pub Sofar : List ℕ → ℕ → ℕ → Type 0
+Sofar bs i value = (all-digits bs ≡ all-digits (drop i bs)) × (value ≡ held (digits-value (take i bs)))
 
-  pub digits-stop : i < length bs → is-digit (getD bs i 0) ≡ false → (length bs ≡ 0 → ⊥) → None ≡ mapped held (natural-written bs)
-  digits-stop within other some =
+module _ (bs : List ℕ) (i value : ℕ) (sofar : Sofar bs i value) where
+  pub digits-more : (d : ℕ) → i < length bs → Some d ≡ cond (is-digit (getD bs i 0)) (Some (getD bs i 0 - 48)) None → Sofar bs (i + 1) (held (10 * value + d))
+  digits-more d within is =
+      let digit : (is-digit (getD bs i 0) ≡ true) × (d ≡ getD bs i 0 - 48) = grind arith in
+      let rest : all-digits (drop i bs) ≡ all-digits (drop (i + 1) bs) = at-drop-more all-digits bs i 0 within ∙ rw (digit .0) refl in
+      let next = folded-more (λ n b. 10 * n + (b - 48)) 0 bs i 0 within in
+      (sofar .0 ∙ rest, rw (digit .1, sofar .1, held-more, next) refl)
+
+  pub digits-stop : i < length bs → None ≡ cond (is-digit (getD bs i 0)) (Some (getD bs i 0 - 48)) None → (length bs ≡ 0 → ⊥) → None ≡ mapped held (natural-written bs)
+  digits-stop within is some =
+      let other : is-digit (getD bs i 0) ≡ false = grind arith in
       let rest : all-digits bs ≡ false = sofar .0 ∙ at-drop-more all-digits bs i 0 within ∙ rw other refl in
       rw (written bs some, rest) refl
 
@@ -60,11 +63,5 @@ negative-held (b ∷ bs) some minus = rw (eq-eqb b 45 minus, take-rest (b ∷ bs
 -- to hold a number leaves it in or out of any range of 32-bit numbers
 pub within-held : (low high : ℤ) (o : Option ℤ) → SFits w32 low → SFits w32 high → number-within low high (mapped held-number o) ≡ number-within low high o
 within-held low high None l h = refl
-within-held (pos low) (pos high) (Some (pos n)) l h = grind (arith, tells)
-within-held (pos low) (pos high) (Some (negsuc n)) l h = grind (arith, tells)
-within-held (pos low) (negsuc high) (Some (pos n)) l h = grind (arith, tells)
-within-held (pos low) (negsuc high) (Some (negsuc n)) l h = grind (arith, tells)
-within-held (negsuc low) (pos high) (Some (pos n)) l h = grind (arith, tells)
-within-held (negsuc low) (pos high) (Some (negsuc n)) l h = grind (arith, tells)
-within-held (negsuc low) (negsuc high) (Some (pos n)) l h = grind (arith, tells)
-within-held (negsuc low) (negsuc high) (Some (negsuc n)) l h = grind (arith, tells)
+within-held low high (Some (pos n)) l h = grind (arith, ints, tells)
+within-held low high (Some (negsuc n)) l h = grind (arith, ints, tells)

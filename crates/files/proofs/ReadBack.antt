@@ -1,6 +1,6 @@
 -- Nodes that are written are read back. Assumes nothing.
-use mathlib.Core.Path.{_≡_, refl, sym, ap, _∙_}
-use mathlib.Core.Bool.{Bool, true, false, cond, _&&_}
+use mathlib.Core.Path.{_≡_, refl, ap, _∙_}
+use mathlib.Core.Bool.{true, false}
 use mathlib.Core.List.{List, [], _∷_, _++_}
 use Prim.Native.Nat.{ℕ, suc, _+_, _-_, _*_, _^_, _≤_, _<_}
 use native.Mathlib.Omega.{arith}
@@ -13,8 +13,8 @@ use Rattle.std.specs.Iters.{folded}
 use Rattle.std.specs.Options.{mapped}
 use Rattle.std.specs.Written.{decimal, signed}
 use Rattle.std.specs.shelf.Lists.{All}
-use Rattle.std.specs.declared.option.Option.the-variants.{Some, None}
-use Rattle.std.specs.declared.result.Result.the-variants.{Ok, Err}
+use Rattle.std.specs.declared.option.Option.the-variants.{Some}
+use Rattle.std.specs.declared.result.Result.the-variants.{Ok}
 use Rattle.std.proofs.shelf.Decimals.{decimal-some, digits-decimal, value-decimal}
 use Rattle.std.proofs.shelf.Numerals.{Numerals, numerals-by-fold}
 use Rattle.std.proofs.shelf.Signed.{ints}
@@ -24,8 +24,8 @@ use Rattle.files.specs.declared.scan.Separator.{Separator}
 use Rattle.files.specs.declared.scan.Separator.the-variants.{Blank, LineEnd, CommentSign}
 use Rattle.files.specs.declared.line.Field.{Field}
 use Rattle.files.specs.declared.line.Field.the-variants.{Kind, Name, PartA, PartB, PartC, Next, Lo, Hi}
-use Rattle.files.specs.Scan.{Bytes, cuts, before, onto, pieces, filled, lines-of, words-of}
-use Rattle.files.specs.Number.{is-digit, all-digits, digits-value, natural-written, number-written}
+use Rattle.files.specs.Scan.{Bytes, cuts, before, pieces, filled, lines-of, words-of}
+use Rattle.files.specs.Number.{all-digits, digits-value, natural-written, number-written}
 use Rattle.files.specs.Line.{described, Within, natural, integer, node-of, line-read}
 use Rattle.files.specs.File.{lines-read}
 use Rattle.files.specs.Written.{Fitting, spaced, node-words, nodes-text, Read-back}

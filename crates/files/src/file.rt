@@ -1,7 +1,7 @@
 //! The procedure that a file writes.
 ghost use mathlib.Core.Path.{_≡_};
-ghost use Rattle.files.specs.declared.file.FileFault.the-variants.{OutOfMemory};
 ghost use Rattle.std.specs.Of.Vec.{vec-items};
+ghost use Rattle.files.specs.declared.file.FileFault.the-variants.{OutOfMemory};
 ghost use Rattle.files.specs.File.{Adds, Reads, at-line, procedure-read};
 ghost use Rattle.files.specs.Line.{line-read};
 use crate::line::LineFault;
@@ -30,7 +30,7 @@ pub enum FileFault {
     OutOfMemory,
 }
 
-pub impl<T: Drop> From<Refused<T>> for FileFault as FileFaultFromRefused {
+impl<T: Drop> From<Refused<T>> for FileFault as FileFaultFromRefused {
     ghost converts = { λ _ r. r ≡ OutOfMemory };
 
     fn from(_refused: Refused<T>) -> FileFault {

@@ -1,7 +1,11 @@
 //! What a text is cut into: its lines, and the words of a line.
 ghost use mathlib.Core.Path.{_≡_};
+ghost use mathlib.Core.List.{[], _∷_};
+ghost use Prim.Native.Nat.{_<_};
+ghost use lib.ListN.{length};
 ghost use Rattle.std.specs.Options.{mapped};
-ghost use Rattle.files.specs.Scan.{cuts, before, behind, first, later, lines-of, words-of-line, lines-left, words-left};
+ghost use Rattle.std.specs.declared.option.Option.the-variants.{Some, None};
+ghost use Rattle.files.specs.Scan.{cuts, before, behind, pieces, first, later, lines-of, words-of-line, lines-left, words-left};
 
 /// A sign at which a text is cut.
 #[derive(Clone, Copy, PartialEq, Eq, Debug)]
@@ -14,7 +18,7 @@ enum Separator {
 impl Separator {
     /// Whether the byte is such a sign.
     fn is(self, byte: u8) -> bool
-        ensures told { λ r. ⌜ r ≡ cuts self byte ⌝ }
+        ensures tells { λ r. ⌜ r ≡ cuts self byte ⌝ }
     {
         match self {
             Separator::Blank => byte == b' ' || byte == b'\t' || byte == b'\r',
@@ -37,6 +41,17 @@ fn cut_once(text: &[u8], separator: Separator) -> (&[u8], &[u8])
     (text, &text[text.len()..])
 }
 
+/// The first piece of a text, and what stands behind it; `None` where the text is empty.
+fn first_piece(text: &[u8], separator: Separator) -> Option<(&[u8], &[u8])>
+    ensures cut_off { λ r. ⌜ pieces separator (now (text .entry)) ≡ elim r [ None ↦ [] | Some p ↦ now (p .0) ∷ pieces separator (now (p .1)) ] ⌝ }
+    ensures shorter { λ r. ⌜ elim r [ None ↦ Unit {0} | Some p ↦ length (now (p .1)) < length (now (text .entry)) ] ⌝ }
+{
+    if text.is_empty() {
+        return None;
+    }
+    Some(cut_once(text, separator))
+}
+
 /// Gives the lines of a text, in order. A line end, byte 10, ends a line; the last line needs none.
 #[derive(Debug, Drop)]
 pub struct Lines<'a> {
@@ -55,10 +70,7 @@ impl<'a> Lines<'a> {
         ensures gives_first { λ r. ⌜ mapped now r ≡ first (lines-left (now (self .entry))) ⌝ }
         ensures leaves_later { λ _. ⌜ lines-left (now (self .exit)) ≡ later (lines-left (now (self .entry))) ⌝ }
     {
-        if self.rest.is_empty() {
-            return None;
-        }
-        let (line, rest) = cut_once(self.rest, Separator::LineEnd);
+        let (line, rest) = first_piece(self.rest, Separator::LineEnd)?;
         self.rest = rest;
         Some(line)
     }
@@ -83,8 +95,7 @@ impl<'a> Words<'a> {
         ensures gives_first { λ r. ⌜ mapped now r ≡ first (words-left (now (self .entry))) ⌝ }
         ensures leaves_later { λ _. ⌜ words-left (now (self .exit)) ≡ later (words-left (now (self .entry))) ⌝ }
     {
-        while !self.rest.is_empty() {
-            let (word, rest) = cut_once(self.rest, Separator::Blank);
+        while let Some((word, rest)) = first_piece(self.rest, Separator::Blank) {
             self.rest = rest;
             if !word.is_empty() {
                 return Some(word);
