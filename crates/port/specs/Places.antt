@@ -5,13 +5,13 @@ use Prim.Native.Nat.{ℕ, suc, _+_, _-_}
 use lib.IntN.{ℤ}
 use lib.ListN.{length, take, set}
 
--- n of the places xs are used, and a number written at k comes to stand after theirs
+-- the first n of the places xs are used, and k is the next: a number written there stands after those taken
 pub record NextPlace (xs : List ℤ) (n k : ℕ) : Type 0 where
   pub next : k ≡ n
   pub left : length xs - n ≡ suc (length xs - (n + 1))
   pub taken : (x : ℤ) → take (n + 1) (set xs k x) ≡ take n xs ++ x ∷ []
 
--- all places are used, and there is nothing to write at n
+-- all of the places xs are used, and a write at n alters nothing
 pub record NoPlace (xs : List ℤ) (n : ℕ) : Type 0 where
   pub left : length xs - n ≡ 0
   pub kept : (x : ℤ) → set xs n x ≡ xs

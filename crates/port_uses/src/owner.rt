@@ -1,6 +1,5 @@
 //! Owners of ports.
 ghost use mathlib.Core.Path.{_≡_};
-ghost use lib.ListN.{length, take, set};
 ghost use Rattle.port.specs.Calibrator.{calibration};
 ghost use Rattle.port.specs.Client.{counted};
 ghost use Rattle.port.specs.Meaning.{at-start, first};
@@ -24,31 +23,25 @@ pub fn pass_first(numbers: &[i32], places: &mut [i32])
     }
 }
 
-/// Leaves `number` at the first of `places`, and hands them on.
-pub fn leave_first<'p>(numbers: &[i32], number: i32, places: &'p mut [i32]) -> &'p mut [i32]
-    ensures places { λ r. ⌜ now r ≡ set (now (places .entry)) 0 number ⌝ }
+/// The same, and hands the places on.
+pub fn pass_first_on<'p>(numbers: &[i32], places: &'p mut [i32]) -> &'p mut [i32]
+    ensures places { λ r. ⌜ now r ≡ passed (now (numbers .entry)) (now (places .entry)) ⌝ }
 {
     let mut record = RecordPort::new(numbers, places);
-    let _ = record.put(number);
+    if let Some(number) = record.get() {
+        let _ = record.put(number);
+    }
     record.into_places()
 }
 
 /// How many `numbers` there are, up to `limit`, as the client puts it.
-pub fn count_record(numbers: &[i32], places: &mut [i32], limit: u16) -> Option<i32>
-    ensures first { λ r. ⌜ r ≡ first (counted limit (at-start (now (numbers .entry)) (length (now (places .entry)))) .taken) ⌝ }
+pub fn count_record(numbers: &[i32], limit: u16) -> Option<i32>
+    ensures first { λ r. ⌜ r ≡ first (counted limit (at-start (now (numbers .entry)) 1) .taken) ⌝ }
 {
-    let mut port = RecordPort::new(numbers, places);
+    let mut places = [0; 1];
+    let mut port = RecordPort::new(numbers, &mut places);
     let _ = count_into(&mut port, limit);
     port.taken().first().copied()
-}
-
-/// The places after the same client.
-pub fn count_into_places<'p>(numbers: &[i32], places: &'p mut [i32], limit: u16) -> &'p mut [i32]
-    ensures taken_first { λ r. ⌜ take (length (counted limit (at-start (now (numbers .entry)) (length (now (places .entry)))) .taken)) (now r) ≡ counted limit (at-start (now (numbers .entry)) (length (now (places .entry)))) .taken ⌝ }
-{
-    let mut port = RecordPort::new(numbers, places);
-    let _ = count_into(&mut port, limit);
-    port.into_places()
 }
 
 /// How many numbers of a wave there are, up to `limit`, as the same client puts it.

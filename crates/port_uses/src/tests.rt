@@ -1,9 +1,25 @@
+ghost use mathlib.Core.Path.{_≡_};
+ghost use lib.ListN.{length, take};
+ghost use Rattle.port.specs.Client.{counted};
+ghost use Rattle.port.specs.Meaning.{at-start};
 use crate::owner::*;
+use port::RecordPort;
+use port::RecordPortPort;
+use port::client::count_into;
 use procedure::Reason;
 use procedure::Refusal;
 use procedure::refusal::RefusalDebug;
 use procedure::refusal::RefusalPartialEq;
 use std::test::*;
+
+/// What a client leaves in `places`: the first hold what it put.
+fn count_into_places<'p>(numbers: &[i32], places: &'p mut [i32], limit: u16) -> &'p mut [i32]
+    ensures taken_first { λ r. ⌜ take (length (counted limit (at-start (now (numbers .entry)) (length (now (places .entry)))) .taken)) (now r) ≡ counted limit (at-start (now (numbers .entry)) (length (now (places .entry)))) .taken ⌝ }
+{
+    let mut port = RecordPort::new(numbers, places);
+    let _ = count_into(&mut port, limit);
+    port.into_places()
+}
 
 /// A limit, and what the client counts up to it where five numbers wait.
 const COUNTS: [(u16, i32); 5] = [(0, 0), (1, 1), (4, 4), (5, 5), (65535, 5)];
@@ -11,15 +27,14 @@ const COUNTS: [(u16, i32); 5] = [(0, 0), (1, 1), (4, 4), (5, 5), (65535, 5)];
 #[test]
 fn client_at_both_ports() -> Result<(), Fail> {
     for (limit, count) in COUNTS {
+        let numbers = [5, 5, -5, -5, 5];
         let mut places = [7; 2];
-        check_eq(
-            count_record(&[5, 5, -5, -5, 5], &mut places, limit),
-            Some(count),
-        )?;
-        check_eq(places, [count, 7])?;
+        check_eq(count_record(&numbers, limit), Some(count))?;
         check_eq(count_wave(5, 2, 5, limit), Ok(Some(count)))?;
+        count_into_places(&numbers, &mut places, limit);
+        check_eq(places, [count, 7])?;
     }
-    check_eq(count_record(&[1, 2], &mut [], 2), None)
+    Ok(())
 }
 
 #[test]
@@ -60,6 +75,9 @@ fn places_of_a_record() -> Result<(), Fail> {
     let mut places = [7; 3];
     pass_first(&[-2147483648, 1], &mut places);
     check_eq(places, [-2147483648, 7, 7])?;
-    let left = leave_first(&[], 2147483647, &mut places);
-    check_eq(left.first().copied(), Some(2147483647))
+    check_eq(
+        pass_first_on(&[], &mut places).first().copied(),
+        Some(-2147483648),
+    )?;
+    check_eq(pass_first_on(&[1], &mut []).first().copied(), None)
 }

@@ -1,6 +1,8 @@
 -- Which number is which kind of node. Assumes nothing.
 use mathlib.Core.Bool.{cond}
+use mathlib.Core.List.{List}
 use Prim.Native.Nat.{ℕ}
+use lib.Chars.{codes}
 use lib.Dec.{eqb}
 use Rattle.std.specs.declared.option.Option.{Option}
 use Rattle.std.specs.declared.option.Option.the-variants.{Some, None}
@@ -28,3 +30,21 @@ kind-of n =
     (cond (eqb n 25) (Some (Statement Get))
     (cond (eqb n 26) (Some (Statement Put))
     (cond (eqb n 30) (Some Procedure) None))))))))))))))
+
+-- the word for a kind
+abbrev pub kind-word : Kind → List ℕ
+kind-word Procedure = codes "procedure"
+kind-word (Declaration Parameter) = codes "parameter"
+kind-word (Declaration Variable) = codes "variable"
+kind-word (Declaration Constant) = codes "constant"
+kind-word (Statement Null) = codes "null"
+kind-word (Statement Assignment) = codes "assignment"
+kind-word (Statement If) = codes "IF"
+kind-word (Statement For) = codes "FOR"
+kind-word (Statement Block) = codes "block"
+kind-word (Statement Get) = codes "GET"
+kind-word (Statement Put) = codes "PUT"
+kind-word (Expression Numeral) = codes "numeral"
+kind-word (Expression Name) = codes "name"
+kind-word (Expression Unary) = codes "unary"
+kind-word (Expression Binary) = codes "binary"

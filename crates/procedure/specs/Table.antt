@@ -11,6 +11,8 @@ use Rattle.procedure.specs.declared.kind.Kind.the-variants.{Procedure, Declara
 use Rattle.procedure.specs.declared.kind.DeclarationKind.the-variants.{Parameter, Variable, Constant}
 use Rattle.procedure.specs.declared.layout.Layout.{Layout}
 use Rattle.procedure.specs.declared.node.Node.{Node}
+use Rattle.procedure.specs.declared.table.Standing.{Standing}
+use Rattle.procedure.specs.declared.table.Standing.the-variants.{End, Unlisted, Procedure as AProcedure, Declaration as ADeclaration, Statement as AStatement, Expression as AnExpression}
 use Rattle.procedure.specs.Kind.{kind-of}
 use Rattle.procedure.specs.Layout.{layout}
 
@@ -34,6 +36,18 @@ layout-at t n = layout-of (node t n)
 abbrev pub part : Table → ℕ → Option Kind
 part t zero = None
 part t (suc n) = kind-of (node t (suc n) .kind)
+
+abbrev pub standing-of : Option Kind → Standing
+standing-of None = Unlisted
+standing-of (Some Procedure) = AProcedure
+standing-of (Some (Declaration k)) = ADeclaration k
+standing-of (Some (Statement k)) = AStatement k
+standing-of (Some (Expression k)) = AnExpression k
+
+-- what stands at a number: 0 is the end of a list
+abbrev pub standing : Table → ℕ → Standing
+standing t zero = End
+standing t (suc n) = standing-of (kind-of (node t (suc n) .kind))
 
 abbrev pub is-procedure : Option Kind → Bool
 is-procedure None = false

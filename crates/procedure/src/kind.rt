@@ -1,6 +1,6 @@
 //! What a node is, read out of the number in its field kind.
 ghost use mathlib.Core.Path.{_≡_};
-ghost use Rattle.procedure.specs.Kind.{kind-of};
+ghost use Rattle.procedure.specs.Kind.{kind-of, kind-word};
 
 #[derive(Clone, Copy)]
 pub enum Kind {
@@ -58,6 +58,29 @@ impl Kind {
             26 => Some(Kind::Statement(StatementKind::Put)),
             30 => Some(Kind::Procedure),
             _ => None,
+        }
+    }
+
+    /// The word for the kind.
+    pub fn word(self) -> &'static str
+        ensures worded { λ r. ⌜ now r ≡ kind-word self ⌝ }
+    {
+        match self {
+            Kind::Procedure => "procedure",
+            Kind::Declaration(DeclarationKind::Parameter) => "parameter",
+            Kind::Declaration(DeclarationKind::Variable) => "variable",
+            Kind::Declaration(DeclarationKind::Constant) => "constant",
+            Kind::Statement(StatementKind::Null) => "null",
+            Kind::Statement(StatementKind::Assignment) => "assignment",
+            Kind::Statement(StatementKind::If) => "IF",
+            Kind::Statement(StatementKind::For) => "FOR",
+            Kind::Statement(StatementKind::Block) => "block",
+            Kind::Statement(StatementKind::Get) => "GET",
+            Kind::Statement(StatementKind::Put) => "PUT",
+            Kind::Expression(ExpressionKind::Numeral) => "numeral",
+            Kind::Expression(ExpressionKind::Name) => "name",
+            Kind::Expression(ExpressionKind::Unary) => "unary",
+            Kind::Expression(ExpressionKind::Binary) => "binary",
         }
     }
 }

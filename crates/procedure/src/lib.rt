@@ -20,6 +20,7 @@ pub mod node;
 pub mod operator;
 pub mod refusal;
 mod rules;
+pub mod table;
 pub mod types;
 
 pub use form::FormFault;

@@ -3,7 +3,6 @@ ghost use mathlib.Core.Path.{_≡_};
 ghost use Rattle.std.specs.declared.option.Option.the-variants.{Some};
 ghost use Rattle.procedure.specs.RuleText.{rule-word, rule-sentence, rule-text};
 ghost use Rattle.procedure.specs.Rules.{rooted, name-holds, number-holds, values-hold, fits, parts-fit, sorted, in-order, ordered, named-once, broken-by};
-ghost use Rattle.procedure.specs.Table.{node, part};
 use crate::kind::DeclarationKind;
 use crate::kind::Kind;
 use crate::layout::Layout;
@@ -14,6 +13,7 @@ use crate::naming::Naming;
 use crate::node::Node;
 use crate::operator::BinaryOperator;
 use crate::operator::UnaryOperator;
+use crate::table::part_of;
 use std::fmt;
 
 /// A rule of the form.
@@ -76,35 +76,6 @@ pub impl fmt::Display for Rule as RuleDisplay {
         let sentence = self.sentence();
         write!(f, "{word}: {sentence}")
     }
-}
-
-/// The node of a number, or one of no listed kind beyond the table.
-fn node_at(nodes: &[Node], n: usize) -> Node
-    ensures read { λ r. ⌜ r ≡ node (now (nodes .entry)) n ⌝ }
-{
-    match nodes.get(n) {
-        Some(node) => *node,
-        None => Node {
-            kind: 0,
-            name: 0,
-            a: 0,
-            b: 0,
-            c: 0,
-            next: 0,
-            lo: 0,
-            hi: 0,
-        },
-    }
-}
-
-/// The kind of the node that a reference names.
-fn part_of(nodes: &[Node], n: u16) -> Option<Kind>
-    ensures read { λ r. ⌜ r ≡ part (now (nodes .entry)) n ⌝ }
-{
-    if n == 0 {
-        return None;
-    }
-    Kind::of_number(node_at(nodes, n as usize).kind)
 }
 
 impl Number {

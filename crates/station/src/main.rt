@@ -11,7 +11,10 @@ mod verb;
 use calibrate::run_calibrate;
 use files::FileFaultDisplay;
 use files::read_procedure;
+use procedure::Node;
+use report::CheckReportDisplay;
 use report::FormReportDisplay;
+use report::report_check;
 use report::report_form;
 use std::env;
 use std::fs;
@@ -24,6 +27,7 @@ const USAGE: &str = "\
 usage: station COMMAND
 
   station form FILE            test whether a procedure file has the form of a procedure
+  station check FILE           check a procedure file, and tell what a run of it will need
   station calibrate A H K [N]  print the numbers that wait at a calibrator
   station help                 print this text
 
@@ -33,6 +37,9 @@ kind name a b c next lo hi, separated by blanks. Empty lines, and what follows
 
 form prints 'formed: N nodes', or 'refused: NUMBER WORD at node N' with what that
 means and the rule that is broken.
+
+check prints 'passed: ceiling C, rows R, frames F', the most steps, rows and frames
+of a run, or the refusal and the kind of the node told.
 
 calibrate prints 'waiting: K' and the first N numbers (20 where N is not given) of a
 square wave of amplitude A, 0 to 8388607, half period H, 1 to 10000, and K numbers,
@@ -72,6 +79,10 @@ fn run(rt: &LibcRuntime) -> io::Result<bool> {
             [path] => run_form(rt, path.as_str()),
             _ => Ok(false),
         },
+        Ok(Verb::Check) => match operands.as_slice() {
+            [path] => run_check(rt, path.as_str()),
+            _ => Ok(false),
+        },
         Ok(Verb::Calibrate) => run_calibrate(rt, operands.as_slice()),
     }
 }
@@ -85,23 +96,40 @@ fn complain(rt: &LibcRuntime, word: &str, fault: UsageFault) -> io::Result<bool>
     Ok(false)
 }
 
-/// `station form FILE`.
-fn run_form(rt: &LibcRuntime, path: &str) -> io::Result<bool> {
+/// The procedure in a file; what is wrong with the file is told.
+fn read_file(rt: &LibcRuntime, path: &str) -> io::Result<Option<Vec<Node>>> {
     let text = match fs::read(rt, path) {
         Ok(text) => text,
         Err(error) => {
             eprintln!(rt, "station: {path}: cannot be read: {error}")?;
-            return Ok(false);
+            return Ok(None);
         }
     };
-    let nodes = match read_procedure(rt.alloc(), text.as_slice()) {
-        Ok(nodes) => nodes,
+    match read_procedure(rt.alloc(), text.as_slice()) {
+        Ok(nodes) => Ok(Some(nodes)),
         Err(fault) => {
             eprintln!(rt, "station: {path}: {fault}")?;
-            return Ok(false);
+            Ok(None)
         }
+    }
+}
+
+/// `station form FILE`.
+fn run_form(rt: &LibcRuntime, path: &str) -> io::Result<bool> {
+    let Some(nodes) = read_file(rt, path)? else {
+        return Ok(false);
     };
     let report = report_form(nodes.as_slice());
     println!(rt, "{report}")?;
     Ok(report.is_formed())
+}
+
+/// `station check FILE`.
+fn run_check(rt: &LibcRuntime, path: &str) -> io::Result<bool> {
+    let Some(nodes) = read_file(rt, path)? else {
+        return Ok(false);
+    };
+    let report = report_check(nodes.as_slice());
+    println!(rt, "{report}")?;
+    Ok(report.is_passed())
 }

@@ -9,6 +9,7 @@ use std::fmt;
 pub enum Verb {
     Help,
     Form,
+    Check,
     Calibrate,
 }
 
@@ -49,6 +50,8 @@ impl Verb {
             Some(Verb::Help)
         } else if word == "form" {
             Some(Verb::Form)
+        } else if word == "check" {
+            Some(Verb::Check)
         } else if word == "calibrate" {
             Some(Verb::Calibrate)
         } else {
@@ -63,6 +66,7 @@ impl Verb {
         match self {
             Verb::Help => Operands { fewest: 0, most: 0 },
             Verb::Form => Operands { fewest: 1, most: 1 },
+            Verb::Check => Operands { fewest: 1, most: 1 },
             Verb::Calibrate => Operands { fewest: 3, most: 4 },
         }
     }
