@@ -6,7 +6,7 @@ use procedure::Reason;
 use procedure::Refusal;
 use std::fmt;
 
-/// What a procedure needs of a run: the most steps, rows and frames.
+/// What a run of a procedure is to be given: steps, rows and frames.
 #[derive(Clone, Copy)]
 pub struct Sheet {
     pub ceiling: u64,

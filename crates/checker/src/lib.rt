@@ -1,4 +1,4 @@
-//! The check: which procedures are allowed, the first fault of the others, and what a run will need.
+//! The check: which procedures are allowed, the first fault of the others, and the sheet.
 //!
 //! `check` promises, for every slice of nodes and every working table, the answer that specs/Walk.antt defines: the sheet of a
 //! procedure that passes, exact, or the first fault on the walk with its node. The walk goes over declarations, then statements, in

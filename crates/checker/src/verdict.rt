@@ -67,7 +67,7 @@ fn judge_held(nodes: &[Node], left: u16, places: &mut [Declaration]) -> Result<S
     Ok(sheet)
 }
 
-/// What a run of the procedure needs, or why it is refused; `places` is working memory.
+/// The sheet of the procedure, or why it is refused; `places` is working memory.
 pub fn check(nodes: &[Node], places: &mut [Declaration]) -> Result<Sheet, Refusal>
     ensures checked { λ r. ⌜ r ≡ checked (now (nodes .entry)) (length (now (places .entry))) ⌝ }
 {

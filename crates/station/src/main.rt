@@ -27,7 +27,7 @@ const USAGE: &str = "\
 usage: station COMMAND
 
   station form FILE            test whether a procedure file has the form of a procedure
-  station check FILE           check a procedure file, and tell what a run of it will need
+  station check FILE           check a procedure file, and tell its sheet
   station calibrate A H K [N]  print the numbers that wait at a calibrator
   station help                 print this text
 
@@ -38,8 +38,9 @@ kind name a b c next lo hi, separated by blanks. Empty lines, and what follows
 form prints 'formed: N nodes', or 'refused: NUMBER WORD at node N' with what that
 means and the rule that is broken.
 
-check prints 'passed: ceiling C, rows R, frames F', the most steps, rows and frames
-of a run, or the refusal and the kind of the node told.
+check prints 'passed: ceiling C, rows R, frames F', the sheet of the procedure: the
+steps, rows and frames that a run is to be given; or the refusal and the kind of the
+node told.
 
 calibrate prints 'waiting: K' and the first N numbers (20 where N is not given) of a
 square wave of amplitude A, 0 to 8388607, half period H, 1 to 10000, and K numbers,
