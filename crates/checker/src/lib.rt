@@ -12,6 +12,8 @@
 //! are held just above the limit of steps, so that nothing wraps whatever the nesting, and that changes no answer.
 //!
 //! Running a procedure is left to others.
+#![tactic(auto)]
+
 mod answer;
 mod cost;
 mod declarations;

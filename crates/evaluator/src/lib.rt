@@ -6,6 +6,8 @@
 //!
 //! An arithmetic fault lies inside an expression fault, with the node of its operator. What a statement does with a value, and
 //! how a fault ends a run, is left to the run.
+#![tactic(auto)]
+
 mod evaluate;
 mod fault;
 mod operators;

@@ -3,6 +3,8 @@
 //! The files form.txt and check.txt have cases one after another: a line `case` with what is shown, and then the lines of a
 //! procedure file. The program prints for each case of form.txt the rule that is broken and the node, or how many nodes are formed,
 //! and for each of check.txt the sheet or the refusal. It is held to what it should print.
+#![tactic(auto)]
+
 mod shown;
 
 use checker::{Declaration, check};

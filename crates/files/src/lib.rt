@@ -10,6 +10,8 @@
 //!
 //! Opening a file, and whether nodes make a procedure, is left to others. Other files of lines, words and numbers are
 //! read with `Lines`, `Words` and `read_number`.
+#![tactic(auto)]
+
 pub mod file;
 pub mod line;
 pub mod message;

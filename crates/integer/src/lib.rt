@@ -7,6 +7,8 @@
 //! A fault has a cause: 1 for a result outside INTEGER, 2 for a divisor that is zero.
 //!
 //! At which place of a procedure an operation faulted is left to the caller.
+#![tactic(auto)]
+
 mod arithmetic;
 mod fault;
 mod laws;

@@ -10,6 +10,8 @@
 //! many steps while the run is PAUSED. The code is written for every `Port` and knows only what the port means.
 //!
 //! Which procedures are allowed is left to the check, and what holds of their runs to the crates above.
+#![tactic(auto)]
+
 mod act;
 pub mod begin;
 mod decide;

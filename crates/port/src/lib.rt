@@ -15,6 +15,8 @@
 //!
 //! `client` reads and counts at any port. What the numbers mean to a procedure is left to the crates
 //! that run one, and so is printing.
+#![tactic(auto)]
+
 pub mod calibrator;
 pub mod client;
 mod places;

@@ -3,6 +3,8 @@
 //!
 //! After calls of its own the owner of a record port knows every place of the slice that it lent. After
 //! a client it knows what the port means, and so the numbers taken.
+#![tactic(auto)]
+
 pub mod owner;
 #[cfg(test)]
 mod tests;

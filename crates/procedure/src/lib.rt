@@ -9,6 +9,8 @@
 //! has its lowest broken node told. The work is linear in the number of nodes, and uses no heap.
 //!
 //! What a procedure means, which names and types are allowed in it, and what it needs to run is left to other crates.
+#![tactic(auto)]
+
 pub mod form;
 pub mod kind;
 mod layout;

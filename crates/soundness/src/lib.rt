@@ -1,4 +1,6 @@
 //! What holds of every run of a procedure that passed the check.
+#![tactic(auto)]
+
 ghost use Rattle.soundness.specs.Evaluation.{EvaluationIsTyped};
 ghost use Rattle.soundness.specs.Sound.{StaysSound};
 

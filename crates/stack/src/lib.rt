@@ -5,6 +5,8 @@
 //! a refusal alters nothing. No call asks anything of its caller. The laws of the items, read
 //! oldest first and newest first, are proved once in `laws`. What the items mean, and how one is
 //! found by what it holds, is left to the crates that use the stack.
+#![tactic(auto)]
+
 ghost use Rattle.std.specs.Prelude.{◌≤◌, length};
 
 mod laws;

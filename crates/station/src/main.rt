@@ -2,6 +2,8 @@
 //!
 //! It is thin. Files are read by `files`, procedures are tested by `procedure`, and each of these promises what it answers;
 //! here stand the commands and the lines that they print. A refusal or an error ends with status 1.
+#![tactic(auto)]
+
 mod calibrate;
 mod report;
 #[cfg(test)]

@@ -6,24 +6,24 @@ use Rattle.checker.specs.Walk.{statements}
 use Rattle.checker.proofs.InTurn.{followed}
 use Rattle.checker.proofs.statements.+walk_block_walk_for_walk_if_walk_list_walk_statement.Given as goal
 
-abbrev pub decreases-walk-list : goal.decreases-walk-list
-decreases-walk-list l = 3 * l.left
+abbrev pub decreases-walk_list : goal.decreases-walk_list
+decreases-walk_list l = 3 * l.left
 
-abbrev pub decreases-walk-block : goal.decreases-walk-block
-decreases-walk-block l = 3 * l.left + 1
+abbrev pub decreases-walk_block : goal.decreases-walk_block
+decreases-walk_block l = 3 * l.left + 1
 
-abbrev pub decreases-walk-if : goal.decreases-walk-if
-decreases-walk-if l = 3 * l.left + 1
+abbrev pub decreases-walk_if : goal.decreases-walk_if
+decreases-walk_if l = 3 * l.left + 1
 
-abbrev pub decreases-walk-for : goal.decreases-walk-for
-decreases-walk-for l = 3 * l.left + 1
+abbrev pub decreases-walk_for : goal.decreases-walk_for
+decreases-walk_for l = 3 * l.left + 1
 
-abbrev pub decreases-walk-statement : goal.decreases-walk-statement
-decreases-walk-statement l = 3 * l.left + 2
+abbrev pub decreases-walk_statement : goal.decreases-walk_statement
+decreases-walk_statement l = 3 * l.left + 2
 
 -- The sheet so far, followed by what the rest gives, is that of the whole list.
-abbrev pub invariant-walk-list-loop-rest : goal.invariant-walk-list-loop-rest
-invariant-walk-list-loop-rest l =
+abbrev pub invariant-walk_list-loop-rest : goal.invariant-walk_list-loop-rest
+invariant-walk_list-loop-rest l =
     (followed l.sheet (statements held l.rest l.nodes (opened l.initial.count l.initial.places) l.at)
     ≡ statements held l.left l.nodes (opened l.initial.count l.initial.places) l.n)
     × Left l.initial.count l.initial.places l.count l.places

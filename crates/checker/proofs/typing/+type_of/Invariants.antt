@@ -1,5 +1,5 @@
 -- The levels left fall.
 use Rattle.checker.proofs.typing.+type_of.Given as goal
 
-abbrev pub decreases-type-of : goal.decreases-type-of
-decreases-type-of l = l.levels
+abbrev pub decreases-type_of : goal.decreases-type_of
+decreases-type_of l = l.levels

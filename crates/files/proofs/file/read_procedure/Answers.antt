@@ -9,5 +9,5 @@ loop-line-init c = search (rules, none_read)
 pub loop-line-preserved : goal.loop-line-preserved
 loop-line-preserved c = search (rules, line_added)
 
-pub returns-in-err-add-line : goal.returns-in-err-add-line
-returns-in-err-add-line c = search (rules, line_fault)
+pub returns-in_err-add_line : goal.returns-in_err-add_line
+returns-in_err-add_line c = search (rules, line_fault)

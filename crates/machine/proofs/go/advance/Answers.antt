@@ -10,15 +10,15 @@ use Rattle.machine.proofs.go.advance.Goals as goal
 pub loop-init : goal.loop-init
 loop-init g c = search (rules, going-none)
 
-pub returns-then-not-is-paused : goal.returns-then-not-is-paused
-returns-then-not-is-paused g c =
-    let over = sym c.is_paused.ensures.told ∙ c.if-not-is-paused.true in
+pub returns-then-not-is_paused : goal.returns-then-not-is_paused
+returns-then-not-is_paused g c =
+    let over = sym c.is_paused.ensures.told ∙ c.if-not-is_paused.true in
     let i = c.loop.invariant in
     record {
       gone = going_past c.loop.counter c.args.budget _ _ _ i.0 over c.loop.auto.counter-end;
       counted = i.1;
       same_rows = i.3;
-      same-frames = i.4;
+      same_frames = i.4;
     }
 
 pub loop-preserved : goal.loop-preserved
@@ -27,7 +27,7 @@ loop-preserved g c =
     let t : Table = c.args.nodes.now in
     let s : State = state c.loop.progress (table c.loop.rows) (table c.loop.frames) (meaning c.loop.port) in
     let u : State = state c.step.new.progress (table c.step.new.rows) (table c.step.new.frames) (meaning c.step.new.port) in
-    let paused = sym c.is_paused.ensures.told ∙ c.if-not-is-paused.false in
+    let paused = sym c.is_paused.ensures.told ∙ c.if-not-is_paused.false in
     let i = c.loop.invariant in
     let made : u ≡ stepped t s = c.step.ensures.stepped in
     let few : c.loop.progress.steps < 1000000000 = omega (arith, i.2, c.requires.few, c.loop-test.true) in
@@ -35,7 +35,7 @@ loop-preserved g c =
     let a = i.3 in
     let b = i.4 in
     let d = c.step.ensures.same_rows in
-    let e = c.step.ensures.same-frames in (
+    let e = c.step.ensures.same_frames in (
       going_step c.loop.counter t _ s u i.0 paused made,
       counted-after t s u made i.1 few,
       omega (arith, i.2, one),

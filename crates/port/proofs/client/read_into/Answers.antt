@@ -14,7 +14,7 @@ loop-i-preserved g c =
     let e = holds_more _ c.args.numbers.now c.loop-i.i x (first-left so get.answers get.leaves ∙ c.in-Some.is) c.loop-i-test.true in
     (read_more so get.answers get.leaves x c.in-Some.is, rw (to_z-of_z w32 x fits, c.loop-i.invariant.1) e)
 
-pub returns-in-default : goal.returns-in-default
-returns-in-default g c =
-    let e = read_all c.loop-i.invariant.0 c.get.ensures.answers c.get.ensures.leaves c.in-default.is (length c.args.numbers.now) (omega arith) in
+pub returns-in_default : goal.returns-in_default
+returns-in_default g c =
+    let e = read_all c.loop-i.invariant.0 c.get.ensures.answers c.get.ensures.leaves c.in_default.is (length c.args.numbers.now) (omega arith) in
     record { answers = e.0; leaves = e.1; holds = set-get_or c.loop-i.numbers c.loop-i.i (pos 0) ∙ c.loop-i.invariant.1 }

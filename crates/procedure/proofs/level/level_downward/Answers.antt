@@ -7,8 +7,8 @@ use Rattle.procedure.proofs.level.level_downward.Goals as goal
 pub loop-n-preserved : goal.loop-n-preserved
 loop-n-preserved c =
     let step =
-    downward c.args.nodes.now c.requires.obeyed c.requires.few c.loop-n.levels _ c.level-by.result (c.loop-n.n - 1) (omega arith)
-    c.loop-n.invariant.0 (c.requires.named (c.loop-n.n - 1) (omega arith)) c.level-by.ensures.exact
+    downward c.args.nodes.now c.requires.obeyed c.requires.few c.loop-n.levels _ c.level_by.result (c.loop-n.n - 1) (omega arith)
+    c.loop-n.invariant.0 (c.requires.named (c.loop-n.n - 1) (omega arith)) c.level_by.ensures.exact
     c.loop-n.invariant.1 (λ k g i. c.loop-n.invariant.2 k (omega (arith, g)) i) in (
       length-set _ _ _ ∙ c.loop-n.invariant.0,
       λ k h f. step k h (inr (inr f)),

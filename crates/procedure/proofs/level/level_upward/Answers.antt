@@ -7,6 +7,6 @@ use Rattle.procedure.proofs.level.level_upward.Goals as goal
 pub loop-n-preserved : goal.loop-n-preserved
 loop-n-preserved c = (
   length-set _ _ _ ∙ c.loop-n.invariant.0,
-  upward c.args.nodes.now c.requires.obeyed c.requires.few c.loop-n.levels _ c.level-by.result c.loop-n.n c.loop-n-test.true
-      c.loop-n.invariant.0 (c.requires.named c.loop-n.n (omega arith)) c.level-by.ensures.exact c.loop-n.invariant.1,
+  upward c.args.nodes.now c.requires.obeyed c.requires.few c.loop-n.levels _ c.level_by.result c.loop-n.n c.loop-n-test.true
+      c.loop-n.invariant.0 (c.requires.named c.loop-n.n (omega arith)) c.level_by.ensures.exact c.loop-n.invariant.1,
 )

@@ -13,7 +13,7 @@ pub loop-n-preserved : goal.loop-n-preserved
 loop-n-preserved c = (
   omega arith,
   λ k h.
-      ap (after_nodes k (c.loop-n.n + 1) (drop (c.loop-n.n + 1) c.args.nodes.now)) (c.note-node.ensures.noted k (omega arith))
+      ap (after_nodes k (c.loop-n.n + 1) (drop (c.loop-n.n + 1) c.args.nodes.now)) (c.note_node.ensures.noted k (omega arith))
       ∙ sym (at_drop_more (λ xs. after_nodes k c.loop-n.n xs (get_or c.loop-n.namings k Never)) c.args.nodes.now c.loop-n.n blank c.loop-n-test.true)
       ∙ c.loop-n.invariant.1 k h,
 )

@@ -14,9 +14,9 @@ loop-i-preserved g c =
     let begun : State = state_of c.args.run.now c.args.rows.now c.args.frames.now (meaning c.args.port.now) in
     let before : State = state_of c.loop-i.run c.loop-i.rows c.loop-i.frames (meaning c.loop-i.port) in
     let inv = c.loop-i.invariant in
-    let made = c.make-call.ensures in (
+    let made = c.make_call.ensures in (
       called_more t calls i _ begun before _ c.loop-i-test.true inv.0 made.called,
-      replied_more t calls i _ begun before c.args.replies.now c.loop-i.replies c.make-call.result c.loop-i-test.true c.requires.room inv.0 made.replied inv.1,
+      replied_more t calls i _ begun before c.args.replies.now c.loop-i.replies c.make_call.result c.loop-i-test.true c.requires.room inv.0 made.replied inv.1,
     )
 
 pub returns : goal.returns
