@@ -5,7 +5,7 @@ use lib.IntN.{pred_ℤ, suc_ℤ, pred_ℤ-*ℤ, suc_ℤ-*ℤ, zero-*ℤ, +ℤ_id
 use lib.Signed.{quot_z, rem_z}
 use Rattle.std.proofs.lemmas.Int.{ints}
 use Rattle.integer.specs.Arithmetic.{opposed, floor_z, mod_z}
-use Rattle.integer.specs.Division.{sign_of, Divides, DividesTruncating, DividesFlooring, Divided, DivisionLaws}
+use Rattle.integer.specs.Division.{sign_of, Divides, DividesTruncating, DividesFlooring, DivisionLaws}
 
 -- products
 

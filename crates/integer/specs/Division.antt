@@ -1,5 +1,5 @@
 -- What division means in a textbook's words, and that the quotients and remainders computed are those meant.
-use Rattle.std.specs.Prelude.{◌≡◌, ℕ, zero, suc, ◌<◌, ◌⊎◌, ℤ, pos, negsuc, ◌+ℤ◌, ◌*ℤ◌, ◌≢◌, int_div, int_rem, unsigned_abs}
+use Rattle.std.specs.Prelude.{◌≡◌, zero, suc, ◌<◌, ◌⊎◌, ℤ, pos, negsuc, ◌+ℤ◌, ◌*ℤ◌, ◌≢◌, int_div, int_rem, unsigned_abs}
 use Rattle.integer.specs.Arithmetic.{floor_z, mod_z}
 
 -- -1, 0 or 1

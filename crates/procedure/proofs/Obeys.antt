@@ -1,5 +1,5 @@
 -- Where the namer of a node stands, in a table that breaks no rule.
-use Rattle.std.proofs.Common.{◌≡◌, ℕ, zero, suc, ◌-◌, ◌<◌, Bool, true, false, ◌&&◌, ◌||◌, eqb, None, Option, refl, subst, arith, ltb-true}
+use Rattle.std.proofs.Common.{◌≡◌, ℕ, zero, suc, ◌<◌, Bool, true, false, ◌&&◌, ◌||◌, eqb, None, Option, refl, subst, arith, ltb-true}
 use Rattle.std.proofs.lemmas.Bool.{and_parts}
 use Rattle.procedure.specs.declared.kind.Kind.{Kind}
 use Rattle.procedure.specs.declared.layout.Role.{Role}

@@ -1,5 +1,5 @@
 -- A table that breaks no rule is a tree.
-use Rattle.std.proofs.Common.{◌≡◌, ℕ, zero, suc, ◌+◌, ◌-◌, ◌<◌, ◌≤◌, Bool, true, false, ◌⊎◌, length, sym, refl, ◌∙◌, inl, inr, arith}
+use Rattle.std.proofs.Common.{◌≡◌, ℕ, zero, suc, ◌+◌, ◌<◌, ◌≤◌, Bool, true, false, ◌⊎◌, length, sym, refl, ◌∙◌, inl, inr, arith}
 use Rattle.procedure.specs.declared.layout.Role.{Role}
 use Rattle.procedure.specs.declared.layout.Role.TheVariants.{Unused, Operand, Root, Declarations, Locals, Statements, Alternative, Following}
 use Rattle.procedure.specs.declared.naming.Naming.{Naming}
