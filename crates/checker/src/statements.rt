@@ -77,7 +77,7 @@ fn in_turn(first: Sheet, rest: Sheet) -> Sheet
 }
 
 /// Walks a list of statements, of at most `left` nodes in a row.
-#[cycle(walk_block_walk_for_walk_if_walk_list_walk_statement)]
+#[cycle(walk)]
 pub fn walk_list(
     nodes: &[Node],
     n: u16,
@@ -118,7 +118,7 @@ pub fn walk_list(
 }
 
 /// Walks one statement, without what follows it.
-#[cycle(walk_block_walk_for_walk_if_walk_list_walk_statement)]
+#[cycle(walk)]
 fn walk_statement(
     nodes: &[Node],
     n: u16,
@@ -144,7 +144,7 @@ fn walk_statement(
     }
 }
 
-#[cycle(walk_block_walk_for_walk_if_walk_list_walk_statement)]
+#[cycle(walk)]
 fn walk_if(
     nodes: &[Node],
     n: u16,
@@ -170,7 +170,7 @@ fn walk_if(
     })
 }
 
-#[cycle(walk_block_walk_for_walk_if_walk_list_walk_statement)]
+#[cycle(walk)]
 fn walk_for(
     nodes: &[Node],
     n: u16,
@@ -200,7 +200,7 @@ fn walk_for(
     })
 }
 
-#[cycle(walk_block_walk_for_walk_if_walk_list_walk_statement)]
+#[cycle(walk)]
 fn walk_block(
     nodes: &[Node],
     n: u16,

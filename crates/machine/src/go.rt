@@ -27,8 +27,8 @@ fn advance<P: Port>(
 )
     requires few { budget + progress.old.steps ≤ 1000000000 }
     requires counted { Counted progress.old }
-    ensures gone { state progress.new (table rows.new) (table frames.new) (meaning port.new)
-        ≡ going budget nodes.now (state progress.old (table rows.old) (table frames.old) (meaning port.old)) }
+    ensures gone { state progress.new (table rows.new) (table frames.new) (P.meaning port.new)
+        ≡ going budget nodes.now (state progress.old (table rows.old) (table frames.old) (P.meaning port.old)) }
     ensures counted { Counted progress.new }
     ensures same_rows { SameSlice rows.old.places rows.new.places }
     ensures same_frames { SameSlice frames.old.places frames.new.places }
@@ -80,9 +80,9 @@ pub fn go<P: Port>(
     port: &mut P,
     budget: u64,
 ) -> Result<(), Refusal>
-    ensures answered { result ≡ go_answer budget nodes.now (state_of run.old rows.old frames.old (meaning port.old)) }
-    ensures gone { state_of run.new rows.new frames.new (meaning port.new)
-        ≡ gone budget nodes.now (state_of run.old rows.old frames.old (meaning port.old)) }
+    ensures answered { result ≡ go_answer budget nodes.now (state_of run.old rows.old frames.old (P.meaning port.old)) }
+    ensures gone { state_of run.new rows.new frames.new (P.meaning port.new)
+        ≡ gone budget nodes.now (state_of run.old rows.old frames.old (P.meaning port.old)) }
     ensures refused_leaves_all { IfErr result (λ _.
         (run.new ≡ run.old) × (rows.new ≡ rows.old) × (frames.new ≡ frames.old) × (port.new ≡ port.old)) }
 {

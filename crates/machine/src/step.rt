@@ -93,8 +93,8 @@ fn receive<P: Port>(
 )
     requires few { progress.old.steps < 1000000000 }
     requires counted { Counted progress.old }
-    ensures received { (frames : Frames) → state progress.new (table rows.new) frames (meaning port.new)
-        ≡ received (get_answer (meaning port.old)) placed to (state progress.old (table rows.old) frames (meaning port.old)) }
+    ensures received { (frames : Frames) → state progress.new (table rows.new) frames (P.meaning port.new)
+        ≡ received (get_answer (P.meaning port.old)) placed to (state progress.old (table rows.old) frames (P.meaning port.old)) }
     ensures same { SameSlice rows.old.places rows.new.places }
 {
     let Some(number) = port.get() else {
@@ -125,8 +125,8 @@ fn carry_out<P: Port>(
 )
     requires few { progress.old.steps < 1000000000 }
     requires counted { Counted progress.old }
-    ensures acted { state progress.new (table rows.new) (table frames.new) (meaning port.new)
-        ≡ acted act (state progress.old (table rows.old) (table frames.old) (meaning port.old)) }
+    ensures acted { state progress.new (table rows.new) (table frames.new) (P.meaning port.new)
+        ≡ acted act (state progress.old (table rows.old) (table frames.old) (P.meaning port.old)) }
     ensures same_rows { SameSlice rows.old.places rows.new.places }
     ensures same_frames { SameSlice frames.old.places frames.new.places }
 {
@@ -181,8 +181,8 @@ pub fn step<P: Port>(
 )
     requires few { progress.old.steps < 1000000000 }
     requires counted { Counted progress.old }
-    ensures stepped { state progress.new (table rows.new) (table frames.new) (meaning port.new)
-        ≡ stepped nodes.now (state progress.old (table rows.old) (table frames.old) (meaning port.old)) }
+    ensures stepped { state progress.new (table rows.new) (table frames.new) (P.meaning port.new)
+        ≡ stepped nodes.now (state progress.old (table rows.old) (table frames.old) (P.meaning port.old)) }
     ensures same_rows { SameSlice rows.old.places rows.new.places }
     ensures same_frames { SameSlice frames.old.places frames.new.places }
 {

@@ -32,9 +32,9 @@ fn make_call<P: Port>(
     port: &mut P,
     call: Call,
 ) -> Reply
-    ensures replied { result ≡ reply_to nodes.now call (state_of run.old rows.old frames.old (meaning port.old)) }
-    ensures called { state_of run.new rows.new frames.new (meaning port.new)
-        ≡ after_call nodes.now call (state_of run.old rows.old frames.old (meaning port.old)) }
+    ensures replied { result ≡ reply_to nodes.now call (state_of run.old rows.old frames.old (P.meaning port.old)) }
+    ensures called { state_of run.new rows.new frames.new (P.meaning port.new)
+        ≡ after_call nodes.now call (state_of run.old rows.old frames.old (P.meaning port.old)) }
 {
     match call {
         Call::Go(budget) => match go(run, nodes, rows, frames, port, budget) {
@@ -59,10 +59,10 @@ fn make_calls<P: Port>(
     replies: &mut [Reply],
 )
     requires room { length calls.now ≤ length replies.old }
-    ensures called { state_of run.new rows.new frames.new (meaning port.new)
-        ≡ after_calls nodes.now calls.now (state_of run.old rows.old frames.old (meaning port.old)) }
+    ensures called { state_of run.new rows.new frames.new (P.meaning port.new)
+        ≡ after_calls nodes.now calls.now (state_of run.old rows.old frames.old (P.meaning port.old)) }
     ensures replied { replies.new
-        ≡ replies_to nodes.now calls.now (state_of run.old rows.old frames.old (meaning port.old))
+        ≡ replies_to nodes.now calls.now (state_of run.old rows.old frames.old (P.meaning port.old))
         ++ drop (length calls.now) replies.old }
 {
     for (i, call) in calls.iter().enumerate() {
@@ -101,8 +101,8 @@ fn serve_in_order<P: Port>(
     calls: &[Call],
     replies: &mut [Reply],
 ) -> Result<Served, Refusal>
-    ensures served { with_tables result rows.new frames.new (meaning port.new) replies.new
-        ≡ served nodes.now (length declarations.old) values.now rows.old frames.old (meaning port.old) calls.now replies.old }
+    ensures served { with_tables result rows.new frames.new (P.meaning port.new) replies.new
+        ≡ served nodes.now (length declarations.old) values.now rows.old frames.old (P.meaning port.old) calls.now replies.old }
     ensures refused_leaves_all { IfErr result (λ _.
         (rows.new ≡ rows.old) × (frames.new ≡ frames.old) × (port.new ≡ port.old) × (replies.new ≡ replies.old)) }
 {
@@ -125,12 +125,12 @@ pub fn serve<P: Port>(
     calls: &[Call],
     replies: &mut [Reply],
 ) -> Result<Served, Refusal>
-    ensures served { with_tables result rows.new frames.new (meaning port.new) replies.new
-        ≡ served nodes.now (length declarations.old) values.now rows.old frames.old (meaning port.old) calls.now replies.old }
+    ensures served { with_tables result rows.new frames.new (P.meaning port.new) replies.new
+        ≡ served nodes.now (length declarations.old) values.now rows.old frames.old (P.meaning port.old) calls.now replies.old }
     ensures refused_leaves_all { IfErr result (λ _.
         (rows.new ≡ rows.old) × (frames.new ≡ frames.old) × (port.new ≡ port.old) × (replies.new ≡ replies.old)) }
     ensures sound_throughout { MatchResult result
-        (λ done. SoundThroughout nodes.now values.now rows.old frames.old (meaning port.old) calls.now done.sheet)
+        (λ done. SoundThroughout nodes.now values.now rows.old frames.old (P.meaning port.old) calls.now done.sheet)
         (λ _. Unit {0}) }
 {
     serve_in_order(

@@ -7,11 +7,11 @@ use Rattle.checker.proofs.declarations.walk_declarations.Goals as goal
 pub returns-in-End : goal.returns-in-End
 returns-in-End c = search (rules, declares_unrolled)
 
-pub returns-in_err-declaration : goal.returns-in_err-declaration
-returns-in_err-declaration c = search (rules, declares_unrolled)
+pub returns-in_err-declaration-in-Declaration : goal.returns-in_err-declaration-in-Declaration
+returns-in_err-declaration-in-Declaration c = search (rules, declares_unrolled)
 
-pub returns-in_err-declare : goal.returns-in_err-declare
-returns-in_err-declare c = search (rules, declares_unrolled)
+pub returns-in_err-declare-in-Declaration : goal.returns-in_err-declare-in-Declaration
+returns-in_err-declare-in-Declaration c = search (rules, declares_unrolled)
 
 pub loop-rest-preserved : goal.loop-rest-preserved
 loop-rest-preserved c = (search (rules, costing_step), search rules, search rules)

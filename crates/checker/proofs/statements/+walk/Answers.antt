@@ -4,7 +4,7 @@ use Rattle.checker.specs.Region.{opened}
 use Rattle.stack.proofs.Newest.{length-newest}
 use Rattle.checker.proofs.InTurn.{followed_none, followed_step}
 use Rattle.checker.proofs.Unrolled.{states_unrolled}
-use Rattle.checker.proofs.statements.+walk_block_walk_for_walk_if_walk_list_walk_statement.Goals as goal
+use Rattle.checker.proofs.statements.+walk.Goals as goal
 
 pub walk_block-returns-in_err-cost : goal.walk_block-returns-in_err-cost
 walk_block-returns-in_err-cost t c = search (rules, length-newest)
@@ -21,8 +21,8 @@ walk_list-loop-rest-init t c = search (rules, followed_none)
 pub walk_list-returns-in-End : goal.walk_list-returns-in-End
 walk_list-returns-in-End t c = search (rules, states_unrolled, length-newest)
 
-pub walk_list-returns-in_err-one : goal.walk_list-returns-in_err-one
-walk_list-returns-in_err-one t c = search (rules, states_unrolled)
+pub walk_list-returns-in_err-one-in-Statement : goal.walk_list-returns-in_err-one-in-Statement
+walk_list-returns-in_err-one-in-Statement t c = search (rules, states_unrolled)
 
 pub walk_list-loop-rest-preserved : goal.walk_list-loop-rest-preserved
 walk_list-loop-rest-preserved t c =

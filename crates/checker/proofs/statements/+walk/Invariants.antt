@@ -4,7 +4,7 @@ use Rattle.checker.specs.Cost.{held}
 use Rattle.checker.specs.Region.{opened, Left}
 use Rattle.checker.specs.Walk.{statements}
 use Rattle.checker.proofs.InTurn.{followed}
-use Rattle.checker.proofs.statements.+walk_block_walk_for_walk_if_walk_list_walk_statement.Given as goal
+use Rattle.checker.proofs.statements.+walk.Given as goal
 
 abbrev pub decreases-walk_list : goal.decreases-walk_list
 decreases-walk_list l = 3 * l.left
