@@ -7,7 +7,7 @@ use Rattle.checker.specs.declared.names.Declaration.{Declaration as DeclarationT
 use Rattle.checker.specs.declared.names.Meaning.{Meaning}
 use Rattle.checker.specs.declared.names.Meaning.TheVariants.{Nothing, Object}
 use Rattle.checker.specs.Allowed.{Scope, standard, begin_region, hide, declare, object_of}
-use Rattle.checker.specs.Names.{means, means_inside}
+use Rattle.checker.specs.Names.{means_inside}
 use Rattle.checker.specs.Region.{Environment, is_taken}
 use Rattle.checker.specs.Walk.{is_constant}
 

@@ -12,7 +12,7 @@ use Rattle.procedure.specs.declared.types.«Type».{«Type» as TypeT}
 use Rattle.procedure.specs.declared.types.«Type».TheVariants.{Integer, Boolean}
 use Rattle.procedure.specs.Formed.{Formed}
 use Rattle.procedure.specs.Layout.{layout}
-use Rattle.procedure.specs.Table.{Table, node, part, standing}
+use Rattle.procedure.specs.Table.{Table, node, standing}
 use Rattle.checker.specs.declared.answer.Sheet.{Sheet}
 use Rattle.checker.specs.declared.names.Declaration.{Declaration as DeclarationT}
 use Rattle.checker.specs.declared.names.Meaning.{Meaning}

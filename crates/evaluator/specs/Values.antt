@@ -1,5 +1,5 @@
 -- Values, and the numbers that stand for them. Assumes nothing.
-use Rattle.std.specs.Prelude.{ℕ, Bool, true, false, cond, ℤ, pos, negsuc, Some, None, Option, ◌==◌}
+use Rattle.std.specs.Prelude.{Bool, true, false, cond, ℤ, pos, negsuc, Some, None, Option, ◌==◌}
 use Rattle.procedure.specs.declared.types.«Type».{«Type» as TypeT}
 use Rattle.procedure.specs.declared.types.«Type».TheVariants.{Integer as IntegerT, Boolean as BooleanT}
 use Rattle.evaluator.specs.declared.value.Value.{Value}

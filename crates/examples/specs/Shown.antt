@@ -1,5 +1,5 @@
 -- What the check says of small procedures, as their tables. Assumes nothing.
-use Rattle.std.specs.Prelude.{◌≡◌, ℕ, List, [], ◌∷◌, pos, Ok}
+use Rattle.std.specs.Prelude.{◌≡◌, ℕ, [], ◌∷◌, pos, Ok}
 use Rattle.procedure.specs.declared.node.Node.{Node}
 use Rattle.procedure.specs.declared.refusal.Reason.TheVariants.{Unmarked, Unknown, Overlong}
 use Rattle.procedure.specs.Table.{Table}

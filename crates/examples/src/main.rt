@@ -20,20 +20,10 @@ enum Subject {
     Check,
 }
 
-#[derive(Drop)]
-struct Failed;
-
-fn main(rt: HostRuntime) -> Result<(), Failed> {
-    match run(&rt) {
-        Ok(()) => Ok(()),
-        Err(_) => Err(Failed),
-    }
-}
-
-fn run(rt: &HostRuntime) -> io::Result<()> {
+fn main(rt: HostRuntime) -> io::Result<()> {
     shown::check_examples_stand();
-    report_cases(rt, "form.txt", Subject::Form)?;
-    report_cases(rt, "check.txt", Subject::Check)
+    report_cases(&rt, "form.txt", Subject::Form)?;
+    report_cases(&rt, "check.txt", Subject::Check)
 }
 
 /// Reports on each case of a file.

@@ -1,5 +1,5 @@
 -- Where a run is not PAUSED, no further step is made.
-use Rattle.std.proofs.Common.{◌≡◌, ℕ, zero, suc, ◌+◌, ◌-◌, ◌≤◌, Bool, true, false, cond, sym, refl, ap, ◌∙◌, add-zero, add-suc, arith}
+use Rattle.std.proofs.Common.{◌≡◌, ℕ, zero, suc, ◌+◌, ◌-◌, ◌≤◌, true, false, sym, refl, ap, ◌∙◌, add-zero, add-suc, arith}
 use native.Mathlib.Numerals.{unary_clauses}
 use Rattle.procedure.specs.Table.{Table}
 use Rattle.machine.specs.Go.{advanced, going}

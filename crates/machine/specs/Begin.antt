@@ -1,5 +1,5 @@
 -- Beginning a run: a row for each parameter, with the values in their order. Assumes nothing.
-use Rattle.std.specs.Prelude.{ℕ, zero, suc, Bool, true, false, cond, not, List, [], ◌∷◌, ◌++◌, length, drop, ℤ, is_some, Ok, Err, Result, ◌==◌, nat_le}
+use Rattle.std.specs.Prelude.{ℕ, zero, suc, Bool, true, false, cond, not, List, [], ◌∷◌, ◌++◌, length, drop, ℤ, is_some, Ok, Err, ◌==◌, nat_le}
 use Rattle.std.specs.Option.{unwrap_or}
 use Rattle.procedure.specs.declared.kind.DeclarationKind.TheVariants.{Parameter, Variable, Constant}
 use Rattle.procedure.specs.declared.refusal.Reason.TheVariants.{Bulky, Unmarked, Miscounted, Unfit, Short}

@@ -1,5 +1,5 @@
 -- Going for a budget of steps. Assumes nothing.
-use Rattle.std.specs.Prelude.{ℕ, zero, suc, ◌+◌, cond, not, ◌&&◌, List, length, Ok, Err, Result, nat_le}
+use Rattle.std.specs.Prelude.{ℕ, zero, suc, ◌+◌, cond, not, ◌&&◌, List, length, Ok, Err, nat_le}
 use Rattle.port.specs.Meaning.{Meaning}
 use Rattle.procedure.specs.declared.refusal.Reason.TheVariants.{Bulky, Short, Overdrawn, Over}
 use Rattle.procedure.specs.Form.{is_bulky}

@@ -1,5 +1,5 @@
 -- The state of a run, and one step of it. Assumes nothing.
-use Rattle.std.specs.Prelude.{ℕ, ◌+◌, Bool, true, false, cond, length, ℤ, is_some, Some, None, Ok, Err, Option, Result, nat_lt}
+use Rattle.std.specs.Prelude.{ℕ, ◌+◌, cond, length, ℤ, is_some, Some, None, Ok, Err, Option, Result, nat_lt}
 use Rattle.stack.specs.Acts.{stacked, taken_off, replaced, cut}
 use Rattle.stack.specs.Tables.{Table as StackTable}
 use Rattle.port.specs.Meaning.{Meaning, get_answer, after_get, put_answer, after_put}

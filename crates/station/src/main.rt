@@ -14,6 +14,7 @@ use calibrate::run_calibrate;
 use files::read_procedure;
 use procedure::Node;
 use report::{report_check, report_form};
+use std::process::ExitCode;
 use std::{env, fs, io};
 use verb::{UsageFault, Verb};
 
@@ -42,14 +43,11 @@ square wave of amplitude A, 0 to 8388607, half period H, 1 to 10000, and K numbe
 
 A refusal or an error ends with status 1.";
 
-/// The program ends with status 1. What there is to tell has been printed.
-#[derive(Drop)]
-struct Failed;
-
-fn main(rt: HostRuntime) -> Result<(), Failed> {
+fn main(rt: HostRuntime) -> ExitCode {
     match run(&rt) {
-        Ok(true) => Ok(()),
-        Ok(false) | Err(_) => Err(Failed),
+        Ok(true) => ExitCode::SUCCESS,
+        // what there is to tell has been printed
+        Ok(false) | Err(_) => ExitCode::FAILURE,
     }
 }
 
