@@ -3,7 +3,8 @@ use Rattle.std.proofs.Common.{◌≡◌, ℕ, suc, ◌+◌, ◌-◌, ◌*◌, �
 use lib.Signed.{le_z}
 use Rattle.std.specs.Option.{option_map}
 use Rattle.std.specs.Fmt.{signed_decimal}
-use Rattle.std.specs.List.{AllByRecursion as All}
+use Rattle.std.specs.List.{All, AllByRecursion}
+use Rattle.std.proofs.lemmas.List.Elements.{All-head, All-tail}
 use Rattle.std.proofs.lemmas.Fmt.{decimal_nonempty, digits_decimal, digits_value-decimal}
 use Rattle.std.proofs.lemmas.Str.Parse.{IsNumeralModel, numerals_by_fold}
 use Rattle.std.proofs.lemmas.Int.{ints}
@@ -51,14 +52,14 @@ filled_solid : (w : Bytes) (ws : List Bytes) → 0 < length w → filled (w ∷ 
 filled_solid [] ws some = absurd (omega arith)
 filled_solid (b ∷ w) ws some = refl
 
-words_spaced : (ws : List Bytes) → All Solid ws → words_of (spaced ws) ≡ ws
+words_spaced : (ws : List Bytes) → AllByRecursion Solid ws → words_of (spaced ws) ≡ ws
 words_spaced [] solid = refl
 words_spaced (w ∷ []) solid = rw (pieces_last Blank w (solid.0.uncut Blank) solid.0.some) (filled_solid w [] solid.0.some)
 words_spaced (w ∷ v ∷ ws) solid =
     rw (pieces_uncut Blank w 32 (spaced (v ∷ ws)) (solid.0.uncut Blank) refl)
     (filled_solid w _ solid.0.some ∙ ap (λ vs. w ∷ vs) (words_spaced (v ∷ ws) solid.1))
 
-uncut_spaced : (s : Separator) (ws : List Bytes) → All Solid ws → cuts s 32 ≡ false → Uncut s (spaced ws)
+uncut_spaced : (s : Separator) (ws : List Bytes) → AllByRecursion Solid ws → cuts s 32 ≡ false → Uncut s (spaced ws)
 uncut_spaced s [] solid space = tt
 uncut_spaced s (w ∷ []) solid space = solid.0.uncut s
 uncut_spaced s (w ∷ v ∷ ws) solid space = uncut_append s w _ (solid.0.uncut s) (space, uncut_spaced s (v ∷ ws) solid.1 space)
@@ -126,7 +127,7 @@ node_back n fits =
       integer_back Hi n.hi fits.hi fits.hi,
     ) refl
 
-solid_words : (n : Node) → Fitting n → All Solid (node_words n)
+solid_words : (n : Node) → Fitting n → AllByRecursion Solid (node_words n)
 solid_words n fits = (
   solid_decimal n.kind (omega (arith, fits.kind)),
   (
@@ -155,10 +156,11 @@ line_back n fits =
 lines_back : (number : ℕ) (ns : List Node) → All Fitting ns → lines_read number (lines_of (nodes_text ns)) ≡ Ok ns
 lines_back number [] fits = refl
 lines_back number (n ∷ ns) fits =
+    let first = All-head Fitting n ns fits in
     rw (
-      pieces_uncut LineEnd (spaced (node_words n)) 10 (nodes_text ns) (uncut_spaced LineEnd (node_words n) (solid_words n fits.0) refl) refl,
-      line_back n fits.0,
-      lines_back (number + 1) ns fits.1,
+      pieces_uncut LineEnd (spaced (node_words n)) 10 (nodes_text ns) (uncut_spaced LineEnd (node_words n) (solid_words n first) refl) refl,
+      line_back n first,
+      lines_back (number + 1) ns (All-tail Fitting n ns fits),
     ) refl
 
 pub read_back : ReadBack

@@ -1,7 +1,6 @@
 -- How nodes are written: a line each, eight numbers with a space between them. Assumes nothing.
-use Rattle.std.specs.Prelude.{◌≡◌, ◌≤◌, List, [], ◌∷◌, ◌++◌, Ok, decimal}
+use Rattle.std.specs.Prelude.{All, ◌≡◌, ◌≤◌, List, [], ◌∷◌, ◌++◌, Ok, decimal}
 use Rattle.std.specs.Fmt.{signed_decimal}
-use Rattle.std.specs.List.{AllByRecursion as All}
 use Rattle.procedure.specs.declared.node.Node.{Node}
 use Rattle.files.specs.declared.line.Field.TheVariants.{Lo, Hi}
 use Rattle.files.specs.Scan.{Bytes}

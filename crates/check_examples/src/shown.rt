@@ -1,5 +1,5 @@
 //! Worked examples that are shown of the definitions.
-ghost use Rattle.examples.specs.Shown.{CheckExamples};
+ghost use Rattle.check_examples.specs.Shown.{CheckExamples};
 
 /// What the check's definition says of five small procedures.
 pub fn check_examples_stand()

@@ -1,7 +1,7 @@
 -- By computation.
 use Rattle.std.proofs.Common.{refl}
 use Rattle.checker.specs.Typing.{typed}
-use Rattle.examples.proofs.shown.check_examples_stand.Goals as goal
+use Rattle.check_examples.proofs.shown.check_examples_stand.Goals as goal
 
 pub returns : goal.returns
 unfolding typed
