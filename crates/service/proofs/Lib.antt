@@ -1,3 +1,3 @@
 mod Held
 mod Calls
-mod Sound
+pub mod Sound

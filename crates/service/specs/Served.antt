@@ -8,7 +8,6 @@ use Rattle.procedure.specs.Sequence.{Answer, and_then, want}
 use Rattle.procedure.specs.Table.{Table}
 use Rattle.evaluator.specs.declared.rows.Row.{Row}
 use Rattle.machine.specs.declared.frame.Frame.{Frame}
-use Rattle.machine.specs.declared.run.Run.{Run}
 use Rattle.machine.specs.Begin.{Begun, begun}
 use Rattle.machine.specs.Decide.{Rows}
 use Rattle.machine.specs.Go.{state_of, go_answer, gone}

@@ -1,16 +1,14 @@
 -- What was begun after a passed check is safe: the parameters are open, each with a value of its type.
-use Rattle.std.proofs.Common.{◌≡◌, ℕ, zero, suc, ◌+◌, ◌-◌, ◌<◌, ◌≤◌, Bool, true, false, cond, not, eqb, leb, ◌⊎◌, List, [], ◌∷◌, ◌++◌, reverse, length, take, drop, ℤ, is_some, Some, None, Ok, Err, Option, unwrap_or, sym, refl, ap, ◌∙◌, subst, subst₂, inl, inr, arith}
+use Rattle.std.proofs.Common.{◌≡◌, ℕ, zero, suc, ◌+◌, ◌<◌, ◌≤◌, Bool, true, false, cond, not, eqb, leb, ◌⊎◌, List, [], ◌∷◌, ◌++◌, reverse, length, drop, ℤ, is_some, Ok, Option, unwrap_or, sym, refl, ap, ◌∙◌, subst, inl, inr, arith}
 use mathlib.Core.List.{reverse_aux}
 use Rattle.std.proofs.lemmas.List.{append-nil, length-append, length-drop, take_at}
 use Rattle.std.proofs.lemmas.Bool.{eqb-true, leb-true}
-use Rattle.stack.specs.Tables.{newest}
 use Rattle.stack.proofs.Newest.{newest-reverse, newest-none}
 use Rattle.port.specs.Meaning.{Meaning}
 use Rattle.procedure.specs.declared.kind.DeclarationKind.{DeclarationKind}
 use Rattle.procedure.specs.declared.kind.DeclarationKind.TheVariants.{Parameter, Variable, Constant}
 use Rattle.procedure.specs.declared.refusal.Reason.TheVariants.{Bulky, Unfit, Miscounted, Short}
-use Rattle.procedure.specs.declared.table.Standing.{Standing}
-use Rattle.procedure.specs.declared.table.Standing.TheVariants.{End, Unlisted, Procedure, Declaration, Statement, Expression}
+use Rattle.procedure.specs.declared.table.Standing.TheVariants.{Declaration}
 use Rattle.procedure.specs.declared.types.«Type».{«Type» as TypeT}
 use Rattle.procedure.specs.declared.types.«Type».TheVariants.{Integer}
 use Rattle.procedure.specs.Form.{is_bulky, tested}
@@ -20,23 +18,19 @@ use Rattle.evaluator.specs.declared.rows.Row.{Row}
 use Rattle.evaluator.specs.Values.{value_of_type}
 use Rattle.machine.specs.declared.frame.Frame.{Frame}
 use Rattle.machine.specs.Begin.{is_parameter, parameters_from, behind_parameters, parameters, first_due, marked, parameter_type, fitting, parameter_row, parameter_rows, fresh, Begun, begun}
-use Rattle.machine.specs.Decide.{mark_of}
-use Rattle.machine.specs.State.{State}
 use Rattle.checker.specs.declared.answer.Sheet.{Sheet}
 use Rattle.checker.specs.declared.names.Declaration.{Declaration as DeclarationT}
 use Rattle.checker.specs.Region.{Environment}
-use Rattle.checker.specs.Walk.{declaration_cost}
 use Rattle.soundness.specs.Evaluation.{declaration_of, declarations_of, Truths, none, more}
-use Rattle.soundness.specs.Open.{Objects, object, Declared, none as nothing, more as one_more}
+use Rattle.soundness.specs.Open.{object, Declared, none as nothing, more as one_more}
 use Rattle.soundness.specs.Sound.{objects, starting}
 use Rattle.soundness.proofs.Good.{Opens, opens_end, opens_one, declared_as, Passes}
-use Rattle.soundness.proofs.Keep.{Live, arrive, opening_all}
-use Rattle.soundness.proofs.Meets.{Meets, met, unmet, then, asks, meets_then, meets_map, asked, meets_itself}
+use Rattle.soundness.proofs.Keep.{arrive, opening_all}
+use Rattle.soundness.proofs.Meets.{Meets, met, then, asks, meets_then, meets_map, asked, meets_itself}
 use Rattle.soundness.proofs.Parts.{is_local, parameter-next, no_declaration}
 use Rattle.soundness.proofs.Rows.{Fits, number_fits, true_false}
 use Rattle.soundness.proofs.Safe.{Safe, on_way}
 use Rattle.soundness.proofs.Stack.{stack_none}
-use Rattle.soundness.proofs.Tables.{Holds}
 
 -- each value is of its parameter's type
 data Fitted (t : Table) : List ℕ → List ℤ → Type 0 where

@@ -1,8 +1,7 @@
 -- A go for the rest of the ceiling is taken and ends the run; a safe state is sound.
-use Rattle.std.proofs.Common.{◌≡◌, ℕ, zero, suc, ◌+◌, ◌-◌, ◌<◌, ◌≤◌, Bool, true, false, cond, not, ◌&&◌, leb, ◌≢◌, List, [], ◌∷◌, ◌++◌, length, ℤ, is_some, Some, None, Ok, Err, Option, Result, sym, refl, ap, ◌∙◌, subst, subst₂, arith}
+use Rattle.std.proofs.Common.{◌≡◌, ℕ, zero, suc, ◌+◌, ◌<◌, ◌≤◌, Bool, true, false, cond, ◌&&◌, leb, ◌≢◌, List, [], ◌∷◌, length, ℤ, is_some, Some, None, Ok, Err, Option, Result, sym, refl, ap, ◌∙◌, subst, subst₂, arith}
 use Rattle.std.proofs.lemmas.Bool.{le-leb, and_from}
 use Rattle.stack.specs.Acts.{top}
-use Rattle.stack.specs.Tables.{newest_first}
 use Rattle.port.specs.Meaning.{Meaning, get_answer, put_answer}
 use Rattle.port.specs.declared.port.Full.{Full}
 use Rattle.procedure.specs.Form.{is_bulky}
@@ -10,15 +9,14 @@ use Rattle.procedure.specs.Formed.{Formed}
 use Rattle.procedure.specs.Table.{Table}
 use Rattle.evaluator.specs.declared.rows.Placed.{Placed}
 use Rattle.evaluator.specs.Values.{value_of_type}
-use Rattle.machine.specs.declared.act.Act.{Act}
 use Rattle.machine.specs.declared.act.Act.TheVariants.{Done as DoneA, Pass, Declare, Assign, Get, Put, Enter, Loop, Turn, Leave}
 use Rattle.machine.specs.declared.frame.Frame.{Frame}
 use Rattle.machine.specs.declared.outcome.Outcome.{Outcome}
-use Rattle.machine.specs.declared.outcome.Outcome.TheVariants.{Paused, EndError, UseError, Stuck, StorageError}
+use Rattle.machine.specs.declared.outcome.Outcome.TheVariants.{EndError, UseError, Stuck, StorageError}
 use Rattle.machine.specs.Decide.{Frames, Decision, decided}
-use Rattle.machine.specs.Go.{going, go_answer, gone, after}
+use Rattle.machine.specs.Go.{going, go_answer, gone}
 use Rattle.machine.specs.Outcomes.{is_paused}
-use Rattle.machine.specs.State.{State, acted, carried_out, received, sent, stepped}
+use Rattle.machine.specs.State.{State, carried_out, received, sent, stepped}
 use Rattle.checker.specs.declared.answer.Sheet.{Sheet}
 use Rattle.soundness.specs.Evaluation.{Truths}
 use Rattle.soundness.specs.Open.{Open}

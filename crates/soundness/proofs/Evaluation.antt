@@ -1,7 +1,6 @@
 -- An expression that has a type comes to a value of that type, or arithmetic faults.
-use Rattle.std.proofs.Common.{◌≡◌, ℕ, zero, suc, ◌<◌, Bool, true, false, cond, ◌||◌, eqb, ◌⊎◌, List, [], ◌∷◌, length, ℤ, pos, negsuc, Some, None, Ok, Err, Option, Result, sym, refl, ap, ◌∙◌, subst, inl, inr, arith}
+use Rattle.std.proofs.Common.{◌≡◌, ℕ, zero, suc, ◌<◌, Bool, true, false, cond, ◌||◌, eqb, ◌⊎◌, List, [], ◌∷◌, length, ℤ, pos, Some, None, Ok, Err, Option, Result, refl, subst, inl, inr}
 use Rattle.std.proofs.lemmas.Bool.{lt-ltb}
-use Rattle.std.specs.Option.{ok_or}
 use Rattle.integer.specs.declared.fault.ArithmeticFault.{ArithmeticFault}
 use Rattle.procedure.specs.declared.kind.ExpressionKind.{ExpressionKind}
 use Rattle.procedure.specs.declared.kind.ExpressionKind.TheVariants.{Numeral, Name, Unary, Binary}
@@ -20,16 +19,15 @@ use Rattle.procedure.specs.Table.{Table, node, part}
 use Rattle.evaluator.specs.declared.rows.Row.{Row}
 use Rattle.evaluator.specs.declared.value.Value.{Value}
 use Rattle.evaluator.specs.declared.value.Value.TheVariants.{Integer, Boolean}
-use Rattle.evaluator.specs.Evaluate.{evaluated, root_value, name_value, row_value, operand_kind}
+use Rattle.evaluator.specs.Evaluate.{evaluated, name_value, row_value, operand_kind}
 use Rattle.evaluator.specs.Operators.{Evaluation, at_operator, unary_value, binary_value}
 use Rattle.evaluator.specs.Rows.{topmost}
 use Rattle.evaluator.specs.Values.{type_of_value}
 use Rattle.checker.specs.Answer.{Answer, and_then as and-next}
 use Rattle.checker.specs.Names.{means, means_inside}
-use Rattle.checker.specs.declared.names.Meaning.{Meaning}
 use Rattle.checker.specs.declared.names.Meaning.TheVariants.{Nothing, Mark, Object}
 use Rattle.checker.specs.Typing.{typed, typed_as, object_type, unary_type, binary_type}
-use Rattle.soundness.specs.Evaluation.{declarations_of, Truths, none, more, ComesTo, value, fault, EvaluationIsTyped}
+use Rattle.soundness.specs.Evaluation.{declarations_of, Truths, more, ComesTo, value, fault, EvaluationIsTyped}
 use Rattle.soundness.proofs.Meets.{Meets, met, unmet, meets_map, meets_all, met_by}
 use Rattle.soundness.proofs.Parts.{unary_before, binary_before}
 

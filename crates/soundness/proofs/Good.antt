@@ -1,5 +1,5 @@
 -- What the check's walk says of a procedure that passes, as relations with room for R rows and F frames.
-use Rattle.std.proofs.Common.{◌≡◌, ℕ, zero, suc, ◌+◌, ◌-◌, ◌*◌, ◌<◌, ◌≤◌, max, Bool, true, false, cond, not, ◌||◌, eqb, ltb, leb, List, [], ◌∷◌, length, ℤ, pos, negsuc, Some, None, Ok, Err, Option, sym, refl, ap, ◌∙◌, subst, arith}
+use Rattle.std.proofs.Common.{◌≡◌, ℕ, zero, suc, ◌+◌, ◌-◌, ◌*◌, ◌<◌, ◌≤◌, max, Bool, true, false, cond, not, ◌||◌, eqb, ltb, leb, [], ◌∷◌, length, ℤ, pos, negsuc, Some, None, Ok, sym, refl, ap, ◌∙◌, subst, arith}
 use Rattle.procedure.specs.declared.kind.DeclarationKind.{DeclarationKind}
 use Rattle.procedure.specs.declared.kind.DeclarationKind.TheVariants.{Parameter, Variable, Constant}
 use Rattle.procedure.specs.declared.kind.StatementKind.{StatementKind}
@@ -17,9 +17,9 @@ use Rattle.checker.specs.declared.answer.Sheet.{Sheet}
 use Rattle.checker.specs.declared.names.Declaration.{Declaration as DeclarationT}
 use Rattle.checker.specs.declared.names.Meaning.{Meaning}
 use Rattle.checker.specs.declared.names.Meaning.TheVariants.{Nothing, Mark, Object}
-use Rattle.checker.specs.Answer.{Answer, sheet}
+use Rattle.checker.specs.Answer.{sheet}
 use Rattle.checker.specs.Cost.{turns_of, exact}
-use Rattle.checker.specs.Names.{means, means_inside, predefined}
+use Rattle.checker.specs.Names.{means}
 use Rattle.checker.specs.Region.{Environment, is_taken, put}
 use Rattle.checker.specs.Typing.{typed, same_type, mark_type, target_type}
 use Rattle.checker.specs.Walk.{mark_meaning, type_at, initial, is_constant, declaration_cost, declaration, Opened, Declares, declares, declarations, Walks, simple, assignment, get_statement, put_statement, if_statement, for_statement, block_statement, statement, states, statements, procedure}

@@ -1,23 +1,21 @@
 -- A step from a place that runs well leads to another, with less to do, or ends the run.
-use Rattle.std.proofs.Common.{◌≡◌, ℕ, zero, suc, ◌+◌, ◌*◌, ◌<◌, ◌≤◌, Bool, true, false, cond, not, ◌&&◌, eqb, ltb, leb, List, [], ◌∷◌, length, ℤ, pos, ◌+ℤ◌, is_some, Some, None, Ok, Err, Option, Result, sym, refl, ap, ◌∙◌, subst, arith}
+use Rattle.std.proofs.Common.{◌≡◌, ℕ, zero, suc, ◌+◌, ◌*◌, ◌<◌, ◌≤◌, Bool, true, false, cond, not, ◌&&◌, eqb, List, [], ◌∷◌, length, ℤ, pos, ◌+ℤ◌, is_some, Some, None, Ok, Err, Option, Result, sym, refl, ap, ◌∙◌, subst, arith}
 use lib.Signed.{le_z, lt_z}
-use Rattle.std.proofs.lemmas.Bool.{lt-ltb, le-leb, and_from, not_from_false, cond-false, ne_eqb}
+use Rattle.std.proofs.lemmas.Bool.{le-leb, and_from, not_from_false, cond-false, ne_eqb}
 use Rattle.std.specs.Result.{result_map_both}
 use Rattle.stack.specs.Acts.{top}
 use Rattle.stack.specs.Tables.{newest_first}
 use Rattle.integer.specs.declared.fault.ArithmeticFault.{ArithmeticFault}
 use Rattle.procedure.specs.declared.kind.DeclarationKind.{DeclarationKind}
 use Rattle.procedure.specs.declared.kind.DeclarationKind.TheVariants.{Parameter, Variable, Constant}
-use Rattle.procedure.specs.declared.kind.Kind.TheVariants.{Statement as StatementK}
 use Rattle.procedure.specs.declared.kind.StatementKind.{StatementKind}
 use Rattle.procedure.specs.declared.kind.StatementKind.TheVariants.{Null, Assignment, If, For, Block, Get, Put}
-use Rattle.procedure.specs.declared.table.Standing.TheVariants.{End, Declaration, Statement}
+use Rattle.procedure.specs.declared.table.Standing.TheVariants.{Declaration, Statement}
 use Rattle.procedure.specs.declared.types.«Type».{«Type» as TypeT}
 use Rattle.procedure.specs.declared.types.«Type».TheVariants.{Integer as IntegerT, Boolean as BooleanT}
 use Rattle.procedure.specs.Formed.{Formed}
-use Rattle.procedure.specs.Kind.{kind_of}
 use Rattle.procedure.specs.Sequence.{and_then, unless_fails}
-use Rattle.procedure.specs.Table.{Table, node, standing, is_procedure}
+use Rattle.procedure.specs.Table.{Table, node, standing}
 use Rattle.evaluator.specs.declared.fault.ExpressionFault.TheVariants.{Arithmetic}
 use Rattle.evaluator.specs.declared.rows.Placed.{Placed}
 use Rattle.evaluator.specs.declared.rows.Row.{Row}
@@ -27,12 +25,11 @@ use Rattle.evaluator.specs.Evaluate.{root_value}
 use Rattle.evaluator.specs.Operators.{Evaluation}
 use Rattle.evaluator.specs.Rows.{topmost}
 use Rattle.evaluator.specs.Values.{number_of, type_of_value, is_of, value_of_type}
-use Rattle.machine.specs.declared.act.Act.{Act}
 use Rattle.machine.specs.declared.act.Act.TheVariants.{Done, Pass, Declare, Assign, Get as GetA, Put as PutA, Enter, Loop, Turn, Leave}
 use Rattle.machine.specs.declared.fault.StepFault.{StepFault}
 use Rattle.machine.specs.declared.fault.StepFault.TheVariants.{Expression as ExpressionF, FramesFull, RowsFull}
 use Rattle.machine.specs.declared.frame.Frame.{Frame}
-use Rattle.machine.specs.Decide.{Rows, Frames, Decision, enters, has_room, declares, value_at, row_with, frame_at, behind_last, behind, mark_of, declared_row, declaration, placed, branch, decided, list_end}
+use Rattle.machine.specs.Decide.{Rows, Frames, Decision, enters, has_room, declares, value_at, row_with, frame_at, behind_last, behind, mark_of, declaration, placed, branch, decided, list_end}
 use Rattle.checker.specs.declared.names.Declaration.{Declaration as DeclarationT}
 use Rattle.checker.specs.declared.names.Meaning.TheVariants.{Object}
 use Rattle.checker.specs.Cost.{above, turns_of}
@@ -40,11 +37,11 @@ use Rattle.checker.specs.Names.{means}
 use Rattle.checker.specs.Region.{Environment}
 use Rattle.checker.specs.Typing.{typed}
 use Rattle.checker.specs.Walk.{is_constant, declaration_cost}
-use Rattle.soundness.specs.Evaluation.{declaration_of, declarations_of, Truths, more, ComesTo, value, fault}
-use Rattle.soundness.specs.Open.{Object as ObjectR, Objects, object, Declared, none, more as one_more, Within, declaring, stating, start, Open, outermost, in_then, in_else, in_loop, in_block}
+use Rattle.soundness.specs.Evaluation.{declarations_of, Truths, more, ComesTo, value, fault}
+use Rattle.soundness.specs.Open.{Object as ObjectR, Objects, object, Declared, none, more as one_more, declaring, stating, start, Open, outermost, in_then, in_else, in_loop, in_block}
 use Rattle.soundness.specs.Sound.{objects}
 use Rattle.soundness.proofs.Evaluation.{evaluation_is_typed}
-use Rattle.soundness.proofs.Good.{Good, good_end, good_null, good_assign, good_get, good_put, good_branch, good_loop, good_block, Opens, opens_end, opens_one, counter, declared_as}
+use Rattle.soundness.proofs.Good.{Good, good_end, good_null, good_assign, good_get, good_put, good_branch, good_loop, good_block, Opens, opens_end, opens_one, counter}
 use Rattle.soundness.proofs.Parts.{is_local, local-next, block_local, rooted_at}
 use Rattle.soundness.proofs.Rows.{Fits, integer-fits, value-fits, number_fits, truths_below, length-declarations, assign, declarations_assign, objects_assign, Target, target_of, truths_assign, above-next}
 use Rattle.soundness.proofs.Stack.{kind_at, statement-part, goes_on, holder_of, Stack, stack_none, stack_branch, stack_loop, stack_block, stack_left, stack_assign, open_next}

@@ -1,5 +1,5 @@
 -- The theorem: what passed the check and was begun stays sound.
-use Rattle.std.proofs.Common.{◌≡◌, ℕ, ◌≤◌, Bool, true, false, not, leb, length, Ok, Err, Result, sym, refl, ap, ◌∙◌, subst, arith, MatchResult}
+use Rattle.std.proofs.Common.{◌≡◌, ℕ, ◌≤◌, false, not, leb, length, Ok, Err, Result, sym, refl, subst, MatchResult}
 use Rattle.std.proofs.lemmas.Bool.{leb-true, not-true}
 use Rattle.procedure.specs.declared.refusal.Reason.TheVariants.{Bulky, Taken, Overlong, Short}
 use Rattle.procedure.specs.declared.refusal.Refusal.{Refusal}
@@ -14,7 +14,7 @@ use Rattle.soundness.specs.Sound.{starting, StaysSound}
 use Rattle.soundness.proofs.Begins.{begun_good, begins_safe}
 use Rattle.soundness.proofs.Ends.{safe_sound}
 use Rattle.soundness.proofs.Good.{Passes, procedure_good}
-use Rattle.soundness.proofs.Meets.{Meets, met, unmet, then, wants, meets_then, meets_map, met_by, wanted}
+use Rattle.soundness.proofs.Meets.{Meets, met, unmet, then, wants, meets_then, met_by, wanted}
 use Rattle.soundness.proofs.Safe.{calls_safe}
 
 -- what a passed check says

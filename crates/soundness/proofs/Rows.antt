@@ -1,5 +1,5 @@
 -- Rows the newest first: the row that a name denotes, and what writing it leaves as it was.
-use Rattle.std.proofs.Common.{◌≡◌, ℕ, zero, suc, ◌+◌, ◌-◌, ◌<◌, ◌≤◌, Bool, true, false, cond, ◌||◌, eqb, ltb, ◌⊎◌, List, [], ◌∷◌, length, set, ℤ, pos, negsuc, ◌+ℤ◌, is_some, Some, None, Option, sym, refl, ap, ◌∙◌, subst, inl, inr, arith}
+use Rattle.std.proofs.Common.{◌≡◌, ℕ, zero, suc, ◌-◌, ◌<◌, Bool, true, false, cond, ◌||◌, eqb, ◌⊎◌, List, [], ◌∷◌, length, set, ℤ, pos, negsuc, ◌+ℤ◌, is_some, Some, None, sym, refl, ap, ◌∙◌, subst, inl, inr, arith}
 use lib.IntN.{suc_ℤ, +ℤ_one}
 use lib.Signed.{lt_z}
 use Rattle.std.proofs.lemmas.Bool.{ltb-true}
@@ -12,8 +12,6 @@ use Rattle.evaluator.specs.declared.value.Value.TheVariants.{Integer, Boolean}
 use Rattle.evaluator.specs.Rows.{topmost}
 use Rattle.evaluator.specs.Values.{number_of, type_of_value, value_of_type}
 use Rattle.machine.specs.Decide.{row_with}
-use Rattle.checker.specs.declared.names.Declaration.{Declaration}
-use Rattle.checker.specs.declared.names.Meaning.{Meaning}
 use Rattle.checker.specs.declared.names.Meaning.TheVariants.{Nothing, Mark, Object}
 use Rattle.checker.specs.Cost.{above}
 use Rattle.checker.specs.Names.{means}

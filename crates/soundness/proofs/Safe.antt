@@ -1,5 +1,5 @@
 -- A state of a run that runs well, and that a step, a go and any calls lead to another.
-use Rattle.std.proofs.Common.{◌≡◌, ℕ, zero, suc, ◌+◌, ◌-◌, ◌<◌, ◌≤◌, Bool, true, false, cond, ltb, List, [], ◌∷◌, ◌++◌, length, set, ℤ, pos, is_some, Some, None, Ok, Err, Option, Result, sym, refl, ap, ◌∙◌, subst, append_assoc, arith, length-append}
+use Rattle.std.proofs.Common.{◌≡◌, ℕ, zero, suc, ◌+◌, ◌≤◌, Bool, true, false, List, [], ◌∷◌, ◌++◌, length, ℤ, is_some, Some, Ok, Err, sym, refl, ap, ◌∙◌, subst, append_assoc, arith, length-append}
 use Rattle.stack.specs.Acts.{cut, taken_off}
 use Rattle.port.specs.Meaning.{Meaning, first, rest, accepted, added, one_less}
 use Rattle.procedure.specs.Formed.{Formed}
@@ -9,22 +9,20 @@ use Rattle.evaluator.specs.declared.rows.Placed.{Placed}
 use Rattle.evaluator.specs.declared.rows.Row.{Row}
 use Rattle.evaluator.specs.Rows.{topmost}
 use Rattle.evaluator.specs.Values.{value_of_type}
-use Rattle.machine.specs.declared.act.Act.{Act}
-use Rattle.machine.specs.declared.act.Act.TheVariants.{Done as DoneA, Pass, Declare, Assign, Get, Put, Enter, Loop, Turn, Leave}
 use Rattle.machine.specs.declared.frame.Frame.{Frame}
 use Rattle.machine.specs.declared.outcome.Outcome.{Outcome}
 use Rattle.machine.specs.declared.outcome.Outcome.TheVariants.{Paused, Done, NumericError, ConstraintError, EndError, UseError, Stuck, StorageError}
-use Rattle.machine.specs.Decide.{Rows, Frames, Decision, row_with, decided}
-use Rattle.machine.specs.Go.{advanced, going, go_answer, after, gone}
+use Rattle.machine.specs.Decide.{Rows, Frames, Decision, row_with}
+use Rattle.machine.specs.Go.{advanced, going, go_answer, after}
 use Rattle.machine.specs.Outcomes.{is_paused}
-use Rattle.machine.specs.State.{State, pushed, rewritten, gone_to, acted, carried_out, received, sent, stepped}
+use Rattle.machine.specs.State.{State, pushed, rewritten, gone_to, carried_out, received, sent, stepped}
 use Rattle.checker.specs.declared.answer.Sheet.{Sheet}
 use Rattle.soundness.specs.declared.call.Call.{Call}
 use Rattle.soundness.specs.declared.call.Call.TheVariants.{Go, Look}
 use Rattle.soundness.specs.Sound.{after_call, after_calls}
 use Rattle.soundness.proofs.Keep.{Live, Kept, faulting, finishing, passing, opening, assigning, getting, putting, entering, looping, turning, leaving, keep}
 use Rattle.soundness.proofs.Rows.{assign, written}
-use Rattle.soundness.proofs.Tables.{Holds, held_is, holds_push, holds_off, holds_cut, holds_write, holds_turn}
+use Rattle.soundness.proofs.Tables.{Holds, holds_push, holds_off, holds_cut, holds_write, holds_turn}
 
 -- the outcomes that a sound run ends with
 abbrev pub is_fair : Outcome → Bool

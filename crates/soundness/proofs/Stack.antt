@@ -1,5 +1,5 @@
 -- The frames, each with what is open and what is left to do when its list has ended.
-use Rattle.std.proofs.Common.{◌≡◌, ℕ, zero, suc, ◌+◌, ◌*◌, ◌<◌, ◌≤◌, Bool, true, false, cond, eqb, ◌⊎◌, List, [], ◌∷◌, length, ℤ, Some, None, Option, sym, refl, ap, ◌∙◌, subst, inl, inr, arith}
+use Rattle.std.proofs.Common.{◌≡◌, ℕ, zero, suc, ◌+◌, ◌*◌, ◌≤◌, Bool, true, false, cond, eqb, ◌⊎◌, List, [], ◌∷◌, length, ℤ, Some, None, Option, sym, ap, ◌∙◌, inl, inr, arith}
 use Rattle.procedure.specs.declared.kind.Kind.{Kind}
 use Rattle.procedure.specs.declared.kind.Kind.TheVariants.{Procedure as ProcedureK, Declaration as DeclarationK, Statement as StatementK, Expression as ExpressionK}
 use Rattle.procedure.specs.declared.kind.StatementKind.{StatementKind}
@@ -16,11 +16,11 @@ use Rattle.checker.specs.declared.names.Meaning.TheVariants.{Object}
 use Rattle.checker.specs.Cost.{above}
 use Rattle.checker.specs.Names.{means}
 use Rattle.soundness.specs.Evaluation.{declaration_of, declarations_of}
-use Rattle.soundness.specs.Open.{Objects, Along, start, on, Declared, Within, declaring, stating, Open, outermost, in_then, in_else, in_loop, in_block}
+use Rattle.soundness.specs.Open.{Objects, on, declaring, stating, Open, outermost, in_then, in_else, in_loop, in_block}
 use Rattle.soundness.specs.Sound.{objects}
 use Rattle.soundness.proofs.Good.{Good, counter}
 use Rattle.soundness.proofs.Rows.{assign, declarations_assign, objects_assign, length_assign, assign_above, true_false}
-use Rattle.soundness.proofs.Tables.{Above, here, up}
+use Rattle.soundness.proofs.Tables.{Above}
 
 -- kinds of nodes, told by what stands at them
 statement_is : (o : Option Kind) (k : StatementKind) → standing_of o ≡ Statement k → o ≡ Some (StatementK k)

@@ -1,10 +1,10 @@
 -- Tables by the list of what they hold, the newest first, with room for so many.
-use Rattle.std.proofs.Common.{◌≡◌, ℕ, zero, suc, ◌+◌, ◌-◌, ◌<◌, ◌≤◌, min, true, ltb, List, [], ◌∷◌, length, get_or, drop, set, Some, None, sym, refl, ap, ◌∙◌, subst, arith}
+use Rattle.std.proofs.Common.{◌≡◌, ℕ, suc, ◌+◌, ◌-◌, ◌<◌, ◌≤◌, true, ltb, List, [], ◌∷◌, length, drop, set, Some, None, sym, ap, ◌∙◌, subst, arith}
 use Rattle.std.proofs.lemmas.List.{length-set}
 use Rattle.std.proofs.lemmas.Bool.{lt-ltb, cond-true}
 use Rattle.std.specs.List.{slice_get}
 use Rattle.stack.specs.Acts.{item, top, stacked, taken_off, replaced, cut}
-use Rattle.stack.specs.Tables.{Table as StackTable, Within, newest, newest_first}
+use Rattle.stack.specs.Tables.{Table as StackTable, Within, newest_first}
 use Rattle.stack.proofs.Newest.{length-newest, newest-put, newest_less, newest-replace, newest-cut}
 use Rattle.stack.proofs.Views.{top_is_newest}
 use Rattle.machine.specs.Decide.{has_room}
