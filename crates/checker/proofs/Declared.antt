@@ -23,11 +23,11 @@ use Rattle.checker.specs.Measure.{count, initial_steps, declared_steps}
 use Rattle.checker.specs.Names.{means_inside}
 use Rattle.checker.specs.Region.{Environment, put}
 use Rattle.checker.specs.Typing.{mark_type}
-use Rattle.checker.specs.Walk.{Opened, Declares, mark_meaning, initial, is_constant, declaration_cost, declaration, declares as declares-walk, declarations}
+use Rattle.checker.specs.Walk.{Opened, Declares, mark_meaning, initial, is_constant, declaration_cost, declaration, declares as declares_walk, declarations}
 use Rattle.checker.proofs.Chains.{then, valued, variable_chain, constant_chain, declaration_chain, put_chain, declares_chain, Judges, passes, fails, judges_then, judges_need, judges_end, Gives, gives, gives_then, ok_then, then_is, need_is, err_then, need_not, cannot_pass}
 use Rattle.checker.proofs.Expressions.{same_true, same_self, same_false, different, type-judged, type_given, type_refused}
 use Rattle.checker.proofs.Scopes.{Sees, Alike, Agrees, sees_inside, agrees_declare, object_is}
-use Rattle.checker.proofs.Shapes.{part-declaration, fields, Expressed, expressed_root, Listed, declares as declares-list, declares_here, nodes_last_declared, declarations_list, locals_list}
+use Rattle.checker.proofs.Shapes.{part-declaration, fields, Expressed, expressed_root, Listed, declares as declares_list, declares_here, nodes_last_declared, declarations_list, locals_list}
 
 -- what the form says of a declaration: its mark is a name, its value an expression, and what follows a list of declarations
 marked_by_name : (t : Table) → Formed t → (d : ℕ) (k : DeclarationKind) → standing t d ≡ ADeclaration k → number_holds MarkT (node t d).lo ≡ true
@@ -211,7 +211,7 @@ module _ (t : Table) (w : Formed t) (base : ℕ) where
 
   declares-judged : (rest : Declares) (f : ℕ) (k : Standing) (declared : Environment) (Γ : Scope) (d : ℕ)
       → ((declared : Environment) (Γ : Scope) (d : ℕ) → Listed t DeclarationsRole f d → length declared ≤ 256 → Agrees base declared Γ → Judged declared Γ d (rest declared d))
-      → Listed t DeclarationsRole (suc f) d → length declared ≤ 256 → Agrees base declared Γ → standing t d ≡ k → Judged declared Γ d (declares-walk rest k t base declared d)
+      → Listed t DeclarationsRole (suc f) d → length declared ≤ 256 → Agrees base declared Γ → standing t d ≡ k → Judged declared Γ d (declares_walk rest k t base declared d)
   unfolding count declared_steps
   declares-judged rest f End declared Γ d ih l few h q =
       passes (record { inner = Γ; allowed = no_more q; agrees = h; cost = refl; longer = omega arith; room = few })
@@ -232,10 +232,10 @@ module _ (t : Table) (w : Formed t) (base : ℕ) where
         longer = omega arith;
         room = v.room;
       }))
-  declares-judged rest f Unlisted declared Γ d ih l few h q = absurd (subst declares-list q (declares_here t d l.fitting))
-  declares-judged rest f Procedure declared Γ d ih l few h q = absurd (subst declares-list q (declares_here t d l.fitting))
-  declares-judged rest f (AStatement k) declared Γ d ih l few h q = absurd (subst declares-list q (declares_here t d l.fitting))
-  declares-judged rest f (AnExpression k) declared Γ d ih l few h q = absurd (subst declares-list q (declares_here t d l.fitting))
+  declares-judged rest f Unlisted declared Γ d ih l few h q = absurd (subst declares_list q (declares_here t d l.fitting))
+  declares-judged rest f Procedure declared Γ d ih l few h q = absurd (subst declares_list q (declares_here t d l.fitting))
+  declares-judged rest f (AStatement k) declared Γ d ih l few h q = absurd (subst declares_list q (declares_here t d l.fitting))
+  declares-judged rest f (AnExpression k) declared Γ d ih l few h q = absurd (subst declares_list q (declares_here t d l.fitting))
 
   pub declarations-judged : (f : ℕ) (declared : Environment) (Γ : Scope) (d : ℕ) → Listed t DeclarationsRole f d → length declared ≤ 256 → Agrees base declared Γ
       → Judged declared Γ d (declarations f t base declared d)
@@ -251,8 +251,8 @@ pub record OpenedSo (base : ℕ) (declared : Environment) (Γ' : Scope) (n c : �
 
 module _ (t : Table) (w : Formed t) (base : ℕ) where
   of_standing : {P : Opened → Type 0} {k : Standing} (rest : Declares) (declared : Environment) (d : ℕ) → standing t d ≡ k
-      → Gives P (declares-walk rest k t base declared d) → Gives P (declares-walk rest (standing t d) t base declared d)
-  of_standing {P} rest declared d q g = subst (λ k. Gives P (declares-walk rest k t base declared d)) (sym q) g
+      → Gives P (declares_walk rest k t base declared d) → Gives P (declares_walk rest (standing t d) t base declared d)
+  of_standing {P} rest declared d q g = subst (λ k. Gives P (declares_walk rest k t base declared d)) (sym q) g
 
   pub declarations_given : (f : ℕ) (declared : Environment) (Γ : Scope) (d : ℕ) (Γ' : Scope) → Listed t DeclarationsRole f d → Agrees base declared Γ
       → (ds : Declarations t Γ d Γ') → length declared + count ds ≤ 256
@@ -279,8 +279,8 @@ module _ (t : Table) (w : Formed t) (base : ℕ) where
 
 module _ (t : Table) (w : Formed t) (base : ℕ) where
   at_standing : {a : Answer Opened} {k : Standing} (rest : Declares) (declared : Environment) (d : ℕ) → standing t d ≡ k
-      → declares-walk rest k t base declared d ≡ a → declares-walk rest (standing t d) t base declared d ≡ a
-  at_standing rest declared d q e = ap (λ k. declares-walk rest k t base declared d) q ∙ e
+      → declares_walk rest k t base declared d ≡ a → declares_walk rest (standing t d) t base declared d ≡ a
+  at_standing rest declared d q e = ap (λ k. declares_walk rest k t base declared d) q ∙ e
 
   -- A list that has a fault by the rules is refused with it.
   pub declarations_refused : (f : ℕ) (declared : Environment) (Γ : Scope) (n d : ℕ) (r : Refusal) → Listed t DeclarationsRole f d → Agrees base declared Γ → length declared ≡ n

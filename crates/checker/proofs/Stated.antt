@@ -30,7 +30,7 @@ use Rattle.checker.proofs.Chains.{assignment_chain, get_chain, put_statement_cha
 use Rattle.checker.proofs.Declared.{judges_put, put_given, put_refused, OpenedWell, declarations-judged, OpenedSo, declarations_given, declarations_refused}
 use Rattle.checker.proofs.Expressions.{same_true, same_self, same_false, different, type-judged, type_given, type_refused}
 use Rattle.checker.proofs.Scopes.{Alike, Agrees, alike_declare, agrees_begin}
-use Rattle.checker.proofs.Shapes.{part-statement, Reference, Fields, fields, Expressed, expressed_root, Listed, states as states-list, states_here, nodes_last, following_list, alternative_list, statements_list, locals_list}
+use Rattle.checker.proofs.Shapes.{part-statement, Reference, Fields, fields, Expressed, expressed_root, Listed, states as states_list, states_here, nodes_last, following_list, alternative_list, statements_list, locals_list}
 
 -- what the form says of the parts of a statement
 next-statements : (t : Table) → Formed t → (f s : ℕ) (k : StatementKind) → standing t s ≡ AStatement k → Listed t Following (suc f) s → Listed t Following f (node t s).next
@@ -191,10 +191,10 @@ module _ (t : Table) (w : Formed t) where
             frames = omega arith;
             room = omega arith;
           }))
-      all-judged Unlisted q = absurd (subst states-list q (states_here t s l.fitting))
-      all-judged Procedure q = absurd (subst states-list q (states_here t s l.fitting))
-      all-judged (ADeclaration k) q = absurd (subst states-list q (states_here t s l.fitting))
-      all-judged (AnExpression k) q = absurd (subst states-list q (states_here t s l.fitting))
+      all-judged Unlisted q = absurd (subst states_list q (states_here t s l.fitting))
+      all-judged Procedure q = absurd (subst states_list q (states_here t s l.fitting))
+      all-judged (ADeclaration k) q = absurd (subst states_list q (states_here t s l.fitting))
+      all-judged (AnExpression k) q = absurd (subst states_list q (states_here t s l.fitting))
 
   pub statements-judged : (f : ℕ) (declared : Environment) (Γ : Scope) (s : ℕ) → Listed t Following f s → length declared ≤ 256 → Alike declared Γ
       → Judged declared Γ s (statements exact f t declared s)

@@ -10,7 +10,7 @@ use Rattle.procedure.specs.Formed.{Formed, Lowest, MisshapenAt, by_rule, by_dept
 use Rattle.procedure.specs.Level.{level}
 use Rattle.procedure.specs.Rules.{broken_rule}
 use Rattle.procedure.specs.Table.{Table, node}
-use Rattle.procedure.proofs.Verdicts.{judged as form-judged}
+use Rattle.procedure.proofs.Verdicts.{judged as form_judged}
 use Rattle.checker.specs.declared.answer.Sheet.{Sheet}
 use Rattle.checker.specs.Allowed.{standard, begin_region, Allowed}
 use Rattle.checker.specs.Answer.{Answer}
@@ -107,7 +107,7 @@ checked-judged t w =
     let small = not-true (is_bulky t) e in
     judges_need _ _ _ _ (λ e. (sized t small, leb-false 256 w e, refl)) λ e.
     let wide = leb-true 256 w e in
-    judges_then (judges_cases (tested t) (form-judged t)) (λ r g. right_form t w r small wide g) λ _ formed.
+    judges_then (judges_cases (tested t) (form_judged t)) (λ r g. right_form t w r small wide g) λ _ formed.
     judges_need _ _ _ _ (λ e. (wide, formed, taken_procedure (taken_from (node t 0).name e))) λ e.
     subst (Judges (Passes t w) (RefusedRightly t w)) (sym (judged_chain (procedure exact (length t) t)))
     (judges_then (procedure-judged t formed (fresh_from (node t 0).name e)) (λ r g. right_fault t w r wide formed g) λ x v.
@@ -129,7 +129,7 @@ formed_unbroken t w n (by_depth o l) =
     let z : ◌≡◌ {A = ℕ} 0 1 = cc in omega arith
 
 form_given : (t : Table) → Formed t → Gives (λ _. Unit {0}) (tested t)
-form_given t w = go (tested t) (form-judged t)
+form_given t w = go (tested t) (form_judged t)
   where
     undeserved : (e : Refusal) → Deserved t e → ⊥
     undeserved e (bulky b q) = both_ways (is_bulky t) (not_bulky t w) b
@@ -207,7 +207,7 @@ misshapen_one t m n (by_depth o k) (by_rule l) = absurd (let a = o n l.within in
 misshapen_one t m n (by_depth o k) (by_depth p l) = lowest_one t (too_deep t) m n k l
 
 form_refused : (t : Table) (n : ℕ) → is_bulky t ≡ false → MisshapenAt t n → tested t ≡ Err (refusal Misshapen n)
-form_refused t n small m = go (tested t) (form-judged t)
+form_refused t n small m = go (tested t) (form_judged t)
   where
     told : (e : Refusal) → Deserved t e → e ≡ refusal Misshapen n
     told e (bulky b q) = absurd (both_ways (is_bulky t) small b)

@@ -23,7 +23,7 @@ use Rattle.evaluator.specs.Evaluate.{evaluated, name_value, row_value, operand_k
 use Rattle.evaluator.specs.Operators.{Evaluation, at_operator, unary_value, binary_value}
 use Rattle.evaluator.specs.Rows.{topmost}
 use Rattle.evaluator.specs.Values.{type_of_value}
-use Rattle.checker.specs.Answer.{Answer, and_then as and-next}
+use Rattle.checker.specs.Answer.{Answer, and_then as and_next}
 use Rattle.checker.specs.Names.{means, means_inside}
 use Rattle.checker.specs.declared.names.Meaning.TheVariants.{Nothing, Mark, Object}
 use Rattle.checker.specs.Typing.{typed, typed_as, object_type, unary_type, binary_type}
@@ -118,7 +118,7 @@ record Evaluates (t : Table) (rows : List Row) (l e : ℕ) (of_type : TypeT) : T
   is : part t e ≡ Some (Expression kind)
   comes : ComesTo of_type (evaluated l t rows kind e)
 
-next_meets : {A B : Type 0} {P : A → Type 0} {Q : B → Type 0} (r : Answer A) (k : A → Answer B) → Meets P r → ((x : A) → P x → Meets Q (k x)) → Meets Q (and-next r k)
+next_meets : {A B : Type 0} {P : A → Type 0} {Q : B → Type 0} (r : Answer A) (k : A → Answer B) → Meets P r → ((x : A) → P x → Meets Q (k x)) → Meets Q (and_next r k)
 next_meets (Ok x) k (met h) f = f x h
 next_meets (Err e) k unmet f = unmet
 
@@ -141,7 +141,7 @@ typed_as_good below (Some (Expression Unary)) t own rows l e w h ih q =
     record { kind = Unary; is = q; comes = rw (operand_is t e (node t e).a i.kind (unary_before t e w q) i.is) c }
 typed_as_good below (Some (Expression Binary)) t own rows l e w h ih q =
     let b = binary_before t e w q in
-    next_meets (below (node t e).a) (λ x. and-next (below (node t e).b) λ y. binary_type (binary_operator_of (node t e).lo) x y e) (ih (node t e).a) λ x i.
+    next_meets (below (node t e).a) (λ x. and_next (below (node t e).b) λ y. binary_type (binary_operator_of (node t e).lo) x y e) (ih (node t e).a) λ x i.
     next_meets (below (node t e).b) (λ y. binary_type (binary_operator_of (node t e).lo) x y e) (ih (node t e).b) λ y j.
     meets_map (binary_after (binary_operator_of (node t e).lo) e i.comes j.comes) λ v c.
     record {

@@ -6,7 +6,7 @@ use Rattle.procedure.specs.declared.refusal.Refusal.{Refusal}
 use Rattle.procedure.specs.Form.{is_bulky, tested}
 use Rattle.procedure.specs.Formed.{Formed, Deserved}
 use Rattle.procedure.specs.Table.{Table, node}
-use Rattle.procedure.proofs.Verdicts.{judged as form-judged}
+use Rattle.procedure.proofs.Verdicts.{judged as form_judged}
 use Rattle.checker.specs.declared.answer.Sheet.{Sheet}
 use Rattle.checker.specs.Cost.{exact}
 use Rattle.checker.specs.Walk.{procedure, checked}
@@ -25,7 +25,7 @@ record Checked (t : Table) (sheet : Sheet) : Type 0 where
   low : sheet.ceiling ≤ 1000000000
 
 tested_good : (t : Table) → Meets (λ _. Formed t) (tested t)
-tested_good t = go (tested t) (form-judged t)
+tested_good t = go (tested t) (form_judged t)
   where
     go : (r : Result (Unit {0}) Refusal) → MatchResult r (λ _. Formed t) (Deserved t) → Meets (λ _. Formed t) r
     go (Ok u) h = met h

@@ -2,7 +2,7 @@
 use Rattle.std.proofs.Common.{◌≡◌, ℕ, Bool, true, false, Ok, Err, Result, refl, subst}
 use Rattle.procedure.specs.declared.refusal.Reason.{Reason}
 use Rattle.procedure.specs.Sequence.{Answer, and_then, want}
-use Rattle.checker.specs.Answer.{want as check-want}
+use Rattle.checker.specs.Answer.{want as check_want}
 
 pub data Meets {A E : Type 0} (P : A → Type 0) : Result A E → Type 0 where
   met : {x : A} → P x → Meets P (Ok x)
@@ -14,7 +14,7 @@ then r k = and_then r k
 
 -- a test of the check, and one of begin
 unfoldable pub wants : Bool → Reason → ℕ → Answer (Unit {0})
-wants b reason n = check-want b reason n
+wants b reason n = check_want b reason n
 
 unfoldable pub asks : Bool → Reason → ℕ → Answer (Unit {0})
 asks b reason n = want b reason n

@@ -13,7 +13,7 @@ use Rattle.procedure.specs.declared.table.Standing.TheVariants.{Declaration as D
 use Rattle.procedure.specs.Kind.{kind_of}
 use Rattle.procedure.specs.Layout.{layout}
 use Rattle.procedure.specs.Rules.{Obeys, fits, parts_fit, parts_in_order, values_hold}
-use Rattle.procedure.specs.Table.{Table, node, blank, layout_of, part, standing, standing_of, is_procedure, is_local as is-local-part}
+use Rattle.procedure.specs.Table.{Table, node, blank, layout_of, part, standing, standing_of, is_procedure, is_local as is_local_part}
 use Rattle.procedure.proofs.Obeys.{holds}
 
 part_past : (t : Table) (n : ℕ) → length t ≤ n → part t n ≡ None
@@ -63,7 +63,7 @@ is_local Parameter = false
 is_local Variable = true
 is_local Constant = true
 
-local_is : (k : DeclarationKind) → is-local-part (Some (Declaration k)) ≡ true → is_local k ≡ true
+local_is : (k : DeclarationKind) → is_local_part (Some (Declaration k)) ≡ true → is_local k ≡ true
 local_is Parameter e = e
 local_is Variable e = refl
 local_is Constant e = refl
@@ -73,7 +73,7 @@ or_suc v b e = grind (arith, e)
 
 local_fits : (t : Table) (m : ℕ) (k : DeclarationKind) → fits t Locals m ≡ true → standing t m ≡ DeclarationS k → is_local k ≡ true
 local_fits t zero k f e = let z : ◌≡◌ {A = ℕ} 0 1 = cc in absurd (omega arith)
-local_fits t (suc m) k f e = local_is k (subst (λ (o : Option Kind). is-local-part o ≡ true) (declaration-part t (suc m) k e) (or_suc m _ f))
+local_fits t (suc m) k f e = local_is k (subst (λ (o : Option Kind). is_local_part o ≡ true) (declaration-part t (suc m) k e) (or_suc m _ f))
 
 next_fits : (t : Table) (n : ℕ) (k : Kind) → Obeys t → part t n ≡ Some k → fits t (layout (Some k)).next (node t n).next ≡ true
 next_fits t n k w q =
