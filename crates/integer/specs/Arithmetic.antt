@@ -1,5 +1,5 @@
 -- What each operation gives on the integers: the exact number where INTEGER has it, or the fault.
--- quotZ, of the library, rounds toward zero, and remZ leaves what goes with it, with the dividend's sign.
+-- int_div, of the library, rounds toward zero, and int_rem leaves what goes with it, with the dividend's sign.
 use Rattle.std.specs.Prelude.{zero, suc, Bool, true, false, cond, ◌&&◌, ℤ, pos, negsuc, ◌+ℤ◌, ◌-ℤ◌, ◌*ℤ◌, neg_ℤ, Ok, Err, Result, int_div, int_le, int_rem, unsigned_abs}
 use Rattle.integer.specs.declared.fault.ArithmeticFault.{ArithmeticFault}
 use Rattle.integer.specs.declared.fault.ArithmeticFault.TheVariants.{OutsideInteger, ZeroDivisor}
