@@ -1,3 +1,3 @@
 mod Held
 mod Calls
-pub mod Sound
+mod Sound

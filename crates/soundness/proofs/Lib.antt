@@ -1,4 +1,4 @@
-mod Meets
+pub mod Meets
 mod Parts
 mod Evaluation
 mod Tables
