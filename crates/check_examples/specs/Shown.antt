@@ -2,8 +2,9 @@
 use Rattle.std.specs.Prelude.{◌≡◌, ℕ, [], ◌∷◌, pos, Ok}
 use Rattle.procedure.specs.declared.node.Node.{Node}
 use Rattle.procedure.specs.declared.refusal.Reason.TheVariants.{Unmarked, Unknown, Overlong}
+use Rattle.procedure.specs.Sequence.{refused_at}
 use Rattle.procedure.specs.Table.{Table}
-use Rattle.checker.specs.Answer.{refused_at, sheet}
+use Rattle.checker.specs.Answer.{sheet}
 use Rattle.checker.specs.Walk.{checked}
 
 -- nodes by their kinds; the last number of a declaration or a statement is the next of its list

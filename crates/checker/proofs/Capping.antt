@@ -4,9 +4,10 @@ use Rattle.procedure.specs.declared.kind.StatementKind.{StatementKind}
 use Rattle.procedure.specs.declared.kind.StatementKind.TheVariants.{Null, Assignment, If, For, Block, Get, Put}
 use Rattle.procedure.specs.declared.table.Standing.{Standing}
 use Rattle.procedure.specs.declared.table.Standing.TheVariants.{End, Unlisted, Procedure, Declaration, Statement, Expression}
+use Rattle.procedure.specs.Sequence.{Answer}
 use Rattle.procedure.specs.Table.{Table, node, standing}
 use Rattle.checker.specs.declared.answer.Sheet.{Sheet}
-use Rattle.checker.specs.Answer.{Answer, sheet}
+use Rattle.checker.specs.Answer.{sheet}
 use Rattle.checker.specs.Cost.{exact, held}
 use Rattle.checker.specs.Region.{Environment}
 use Rattle.checker.specs.Walk.{Walks, Declares, if_statement, for_statement, block_statement, statement, states, statements, declarations, procedure, judged}

@@ -1,5 +1,5 @@
 -- The chains of the walk with their steps shut, and what an answer is known to be: passed or refused, each with what that means.
-use Rattle.std.proofs.Common.{◌≡◌, ℕ, ◌+◌, ◌-◌, ◌*◌, max, Bool, true, false, not, ltb, leb, List, [], length, Some, Ok, Err, Option, sym, refl, ap, ◌∙◌, subst}
+use Rattle.std.proofs.Common.{◌≡◌, ℕ, ◌+◌, ◌-◌, ◌*◌, max, Bool, true, false, not, ltb, leb, List, [], length, Some, Ok, Err, Option, Result, sym, refl, ap, ◌∙◌, subst}
 use Rattle.procedure.specs.declared.kind.Kind.TheVariants.{Expression}
 use Rattle.procedure.specs.declared.kind.ExpressionKind.TheVariants.{Unary, Binary}
 use Rattle.procedure.specs.declared.kind.DeclarationKind.{DeclarationKind}
@@ -13,18 +13,19 @@ use Rattle.procedure.specs.declared.types.«Type».{«Type» as TypeT}
 use Rattle.procedure.specs.declared.types.«Type».TheVariants.{Integer, Boolean}
 use Rattle.procedure.specs.Form.{is_bulky, tested}
 use Rattle.procedure.specs.Operator.{unary_operator_of, binary_operator_of}
+use Rattle.procedure.specs.Refusal.{refusal_at}
+use Rattle.procedure.specs.Sequence.{Answer, and_then, want}
 use Rattle.procedure.specs.Table.{Table, node}
 use Rattle.checker.specs.declared.answer.Sheet.{Sheet}
 use Rattle.checker.specs.declared.names.Declaration.{Declaration as DeclarationT}
-use Rattle.checker.specs.Answer.{Answer, and_then, want, sheet}
+use Rattle.checker.specs.Answer.{sheet}
 use Rattle.checker.specs.Cost.{turns_of, exact}
-use Rattle.checker.specs.Faults.{refusal}
 use Rattle.checker.specs.Names.{means}
 use Rattle.checker.specs.Region.{Environment, is_taken, put}
 use Rattle.checker.specs.Typing.{typed, typed_as, unary_type, binary_type, same_type, mark_type, target_type}
 use Rattle.checker.specs.Walk.{Declares, Walks, mark_meaning, type_at, initial, is_constant, declaration_cost, declaration, declares, declarations, simple, assignment, get_statement, put_statement, if_statement, for_statement, block_statement, statement, states, statements, procedure, judged, checked}
 
-unfoldable pub then : {A B : Type 0} → Answer A → (A → Answer B) → Answer B
+unfoldable pub then : {A B E : Type 0} → Result A E → (A → Result B E) → Result B E
 then r k = and_then r k
 
 unfoldable pub need : Bool → Reason → ℕ → Answer (Unit {0})
@@ -153,13 +154,13 @@ judges_then (passes p) g h = h _ p
 judges_then (fails d) g h = fails (g _ d)
 
 pub judges_need : {B : Type 0} {Q : B → Type 0} {F : Refusal → Type 0} (b : Bool) (reason : Reason) (n : ℕ) (k : Unit {0} → Answer B)
-    → (b ≡ false → F (refusal reason n)) → (b ≡ true → Judges Q F (k tt)) → Judges Q F (then (need b reason n) k)
+    → (b ≡ false → F (refusal_at reason n)) → (b ≡ true → Judges Q F (k tt)) → Judges Q F (then (need b reason n) k)
 unfolding then need
 judges_need true reason n k g h = h refl
 judges_need false reason n k g h = fails (g refl)
 
 pub judges_end : {P : Unit {0} → Type 0} {F : Refusal → Type 0} (b : Bool) (reason : Reason) (n : ℕ)
-    → (b ≡ false → F (refusal reason n)) → (b ≡ true → P tt) → Judges P F (need b reason n)
+    → (b ≡ false → F (refusal_at reason n)) → (b ≡ true → P tt) → Judges P F (need b reason n)
 unfolding need
 judges_end true reason n g h = passes (h refl)
 judges_end false reason n g h = fails (g refl)
@@ -208,7 +209,7 @@ pub gives_is : {A B : Type 0} {P : A → Type 0} {r : Answer A} {y : Answer B} (
 unfolding then
 gives_is k (gives {x = x} h) f = f x h
 
-pub need_not : {b : Bool} (reason : Reason) (n : ℕ) → b ≡ false → need b reason n ≡ Err (refusal reason n)
+pub need_not : {b : Bool} (reason : Reason) (n : ℕ) → b ≡ false → need b reason n ≡ Err (refusal_at reason n)
 unfolding need
 need_not reason n e = ap (λ b. need b reason n) e
 

@@ -1,5 +1,5 @@
 -- A list of declarations is walked through exactly if the rules allow it with room, and else its first fault is theirs.
-use Rattle.std.proofs.Common.{◌≡◌, ℕ, zero, suc, ◌+◌, ◌<◌, ◌≤◌, Bool, true, false, cond, ltb, leb, ◌∷◌, length, ℤ, pos, negsuc, Some, Ok, Err, sym, refl, ap, ◌∙◌, subst, arith}
+use Rattle.std.proofs.Common.{◌≡◌, ℕ, zero, suc, ◌+◌, ◌<◌, ◌≤◌, Bool, true, false, cond, ltb, leb, ◌∷◌, length, ℤ, pos, negsuc, Some, None, Ok, Err, Option, sym, refl, ap, ◌∙◌, subst, arith}
 use Rattle.std.proofs.lemmas.Bool.{leb-true, le-leb, ltb-true, ltb-false, lt-ltb, not-true, not-false, not_from_false, not_from_true, le-ltb, and_parts, false≢true}
 use Rattle.procedure.specs.declared.kind.DeclarationKind.{DeclarationKind}
 use Rattle.procedure.specs.declared.kind.DeclarationKind.TheVariants.{Parameter, Variable, Constant}
@@ -12,13 +12,14 @@ use Rattle.procedure.specs.declared.table.Standing.TheVariants.{End, Unlisted, P
 use Rattle.procedure.specs.declared.types.«Type».{«Type» as TypeT}
 use Rattle.procedure.specs.Formed.{Formed}
 use Rattle.procedure.specs.Rules.{number_holds}
+use Rattle.procedure.specs.Refusal.{refusal_at}
+use Rattle.procedure.specs.Sequence.{Answer}
 use Rattle.procedure.specs.Table.{Table, node, standing}
 use Rattle.checker.specs.declared.names.Declaration.{Declaration as DeclarationT}
 use Rattle.checker.specs.declared.names.Meaning.{Meaning}
-use Rattle.checker.specs.declared.names.Meaning.TheVariants.{Nothing, Mark, Object}
+use Rattle.checker.specs.declared.names.Meaning.TheVariants.{Mark, Object}
 use Rattle.checker.specs.Allowed.{Scope, hide, declare, object_of, Marks, Typed, Valued, valued_variable, valued_constant, Initial, no_value, value, Declaration, Declarations, no_more, declares}
-use Rattle.checker.specs.Answer.{Answer}
-use Rattle.checker.specs.Faults.{refusal, ExpressionFault, DeclarationFault, taken_name, unmarked_type, in_value, mismatched_value, DeclarationsFault, in_declaration, cramped_declaration, in_later_declaration}
+use Rattle.checker.specs.Faults.{ExpressionFault, DeclarationFault, taken_name, unmarked_type, in_value, mismatched_value, DeclarationsFault, in_declaration, cramped_declaration, in_later_declaration}
 use Rattle.checker.specs.Measure.{count, initial_steps, declared_steps}
 use Rattle.checker.specs.Names.{means_inside}
 use Rattle.checker.specs.Region.{Environment, put}
@@ -30,7 +31,7 @@ use Rattle.checker.proofs.Scopes.{Sees, Alike, Agrees, sees_inside, agrees_decla
 use Rattle.checker.proofs.Shapes.{part-declaration, fields, Expressed, expressed_root, Listed, declares as declares_list, declares_here, nodes_last_declared, declarations_list, locals_list}
 
 -- what the form says of a declaration: its mark is a name, its value an expression, and what follows a list of declarations
-marked_by_name : (t : Table) → Formed t → (d : ℕ) (k : DeclarationKind) → standing t d ≡ ADeclaration k → number_holds MarkT (node t d).lo ≡ true
+marked_by_name : (t : Table) → Formed t → (d : ℕ) (k : DeclarationKind) → standing t d ≡ ADeclaration k → number_holds (Some MarkT) (node t d).lo ≡ true
 marked_by_name t w d Parameter q = (fields t w d _ (part-declaration t d Parameter q)).lo
 marked_by_name t w d Variable q = (fields t w d _ (part-declaration t d Variable q)).lo
 marked_by_name t w d Constant q = (fields t w d _ (part-declaration t d Constant q)).lo
@@ -49,28 +50,28 @@ next-declarations t w f d Constant q h =
     let p = part-declaration t d Constant q in locals_list t d (node t d).next f _ p h.enough (fields t w d _ p).next
 
 -- the name in a mark is one of 16 bits
-mark_fits : (i : ℕ) → number_holds MarkT (pos i) ≡ true → leb i 65535 ≡ true
+mark_fits : (i : ℕ) → number_holds (Some MarkT) (pos i) ≡ true → leb i 65535 ≡ true
 mark_fits i e = let s = leb-true i 272 (and_parts (leb 1 i) (leb i 272) e).1 in le-leb i 65535 (omega arith)
 
-mark_judged : (lo : ℤ) (own : ℕ) (declared : Environment) (Γ : Scope) (n : ℕ) → number_holds MarkT lo ≡ true → Sees (Some own) declared Γ
-    → Judges (Marks Γ lo) (λ r. ((ty : TypeT) → Marks Γ lo ty → ⊥) × (r ≡ refusal Unmarked n)) (mark_type (mark_meaning lo own declared) n)
+mark_judged : (lo : ℤ) (own : ℕ) (declared : Environment) (Γ : Scope) (n : ℕ) → number_holds (Some MarkT) lo ≡ true → Sees (Some own) declared Γ
+    → Judges (Marks Γ lo) (λ r. ((ty : TypeT) → Marks Γ lo ty → ⊥) × (r ≡ refusal_at Unmarked n)) (mark_type (mark_meaning lo own declared) n)
 mark_judged (negsuc i) own declared Γ n e sees = absurd (false≢true e)
 mark_judged (pos i) own declared Γ n e sees =
-    subst (λ b. Judges (Marks Γ (pos i)) (λ r. ((ty : TypeT) → Marks Γ (pos i) ty → ⊥) × (r ≡ refusal Unmarked n))
-    (mark_type (cond b (means_inside (Some own) declared i) Nothing) n)) (sym (mark_fits i e)) (go (means_inside (Some own) declared i) (sees i))
+    subst (λ b. Judges (Marks Γ (pos i)) (λ r. ((ty : TypeT) → Marks Γ (pos i) ty → ⊥) × (r ≡ refusal_at Unmarked n))
+    (mark_type (cond b (means_inside (Some own) declared i) None) n)) (sym (mark_fits i e)) (go (means_inside (Some own) declared i) (sees i))
   where
-    go : (m : Meaning) → Γ.means i ≡ m → Judges (Marks Γ (pos i)) (λ r. ((ty : TypeT) → Marks Γ (pos i) ty → ⊥) × (r ≡ refusal Unmarked n)) (mark_type m n)
-    go Nothing q = fails ((λ ty h. let a = h.1 in let b = h.2 in let z : ◌≡◌ {A = ℕ} 0 1 = cc in omega arith), refl)
-    go (Mark ty) q = passes (i, refl, q)
-    go (Object ty c) q = fails ((λ ty h. let a = h.1 in let b = h.2 in let z : ◌≡◌ {A = ℕ} 0 1 = cc in omega arith), refl)
+    go : (m : Option Meaning) → Γ.means i ≡ m → Judges (Marks Γ (pos i)) (λ r. ((ty : TypeT) → Marks Γ (pos i) ty → ⊥) × (r ≡ refusal_at Unmarked n)) (mark_type m n)
+    go None q = fails ((λ ty h. let a = h.1 in let b = h.2 in let z : ◌≡◌ {A = ℕ} 0 1 = cc in omega arith), refl)
+    go (Some (Mark ty)) q = passes (i, refl, q)
+    go (Some (Object ty c)) q = fails ((λ ty h. let a = h.1 in let b = h.2 in let z : ◌≡◌ {A = ℕ} 0 1 = cc in omega arith), refl)
 
-mark_given : (lo : ℤ) (own : ℕ) (declared : Environment) (Γ : Scope) (ty : TypeT) (n : ℕ) → number_holds MarkT lo ≡ true → Sees (Some own) declared Γ
+mark_given : (lo : ℤ) (own : ℕ) (declared : Environment) (Γ : Scope) (ty : TypeT) (n : ℕ) → number_holds (Some MarkT) lo ≡ true → Sees (Some own) declared Γ
     → Marks Γ lo ty → mark_type (mark_meaning lo own declared) n ≡ Ok ty
 mark_given (negsuc i) own declared Γ ty n e sees m = absurd (false≢true e)
 mark_given (pos i) own declared Γ ty n e sees m =
     let a = m.1 in let b = m.2 in
-    let s : means_inside (Some own) declared i ≡ Mark ty = sym (sees i) ∙ cc in
-    ap (λ b. mark_type (cond b (means_inside (Some own) declared i) Nothing) n) (mark_fits i e) ∙ ap (λ x. mark_type x n) s
+    let s : means_inside (Some own) declared i ≡ Some (Mark ty) = sym (sees i) ∙ cc in
+    ap (λ b. mark_type (cond b (means_inside (Some own) declared i) None) n) (mark_fits i e) ∙ ap (λ x. mark_type x n) s
 
 module _ (t : Table) (w : Formed t) (declared : Environment) (Γ : Scope) (d : ℕ) where
   -- the scope inside the declaration
@@ -83,7 +84,7 @@ module _ (t : Table) (w : Formed t) (declared : Environment) (Γ : Scope) (d : �
 
   valued-judged : (F : Refusal → Type 0) (k : DeclarationKind) (ty : TypeT) → standing t d ≡ ADeclaration k → Alike declared Γ → Valued k
       → ((r : Refusal) → ExpressionFault t inside (node t d).a r → F r)
-      → ((x : TypeT) → Typed t inside (node t d).a x → (x ≡ ty → ⊥) → F (refusal Mismatched d))
+      → ((x : TypeT) → Typed t inside (node t d).a x → (x ≡ ty → ⊥) → F (refusal_at Mismatched d))
       → Judges (λ _. Initial t inside (node t d).a ty k) F (valued t declared ty d)
   valued-judged F k ty q same v in-it other =
       judges_then (type-judged t w (Some (node t d).name) declared inside (sees_inside declared Γ (node t d).name same) 32 (node t d).a (value_expressed t w d k q v))
@@ -92,7 +93,7 @@ module _ (t : Table) (w : Formed t) (declared : Environment) (Γ : Scope) (d : �
 
   initial-judged : (F : Refusal → Type 0) (k : DeclarationKind) (ty : TypeT) → standing t d ≡ ADeclaration k → Alike declared Γ
       → (Valued k → (r : Refusal) → ExpressionFault t inside (node t d).a r → F r)
-      → (Valued k → (x : TypeT) → Typed t inside (node t d).a x → (x ≡ ty → ⊥) → F (refusal Mismatched d))
+      → (Valued k → (x : TypeT) → Typed t inside (node t d).a x → (x ≡ ty → ⊥) → F (refusal_at Mismatched d))
       → Judges (λ _. Initial t inside (node t d).a ty k) F (initial k t declared ty d)
   initial-judged F Parameter ty q same in-it other = passes no_value
   initial-judged F Variable ty q same in-it other =
@@ -170,13 +171,13 @@ module _ (t : Table) (w : Formed t) (declared : Environment) (Γ : Scope) (d : �
       declaration_chain k t base declared d
       ∙ then_is _ (need_is _ _ (not_from_false _ (sym (h.locals (node t d).name) ∙ e)))
       (then_is _ (mark_given (node t d).lo (node t d).name declared inside ty d (marked_by_name t w d k q) (sees_inside declared Γ (node t d).name h.alike) m)
-      (err_then _ (value_refused k ty (refusal Mismatched d) v (then_is _
+      (err_then _ (value_refused k ty (refusal_at Mismatched d) v (then_is _
       (type_given t w (Some (node t d).name) declared inside (sees_inside declared Γ (node t d).name h.alike) 32 (node t d).a x (value_expressed t w d k q v) p)
       (need_not _ _ (different x ty n))))))
 
 -- one declaration more
 pub judges_put : {B : Type 0} {Q : B → Type 0} {F : Refusal → Type 0} (d : DeclarationT) (declared : Environment) (n : ℕ) (next : Environment → Answer B)
-    → (256 ≤ length declared → F (refusal Cramped n)) → (length declared < 256 → Judges Q F (next (d ∷ declared))) → Judges Q F (then (put d declared n) next)
+    → (256 ≤ length declared → F (refusal_at Cramped n)) → (length declared < 256 → Judges Q F (next (d ∷ declared))) → Judges Q F (then (put d declared n) next)
 unfolding then
 judges_put {Q = Q} {F = F} d declared n next g h = go (ltb (length declared) 256) refl
   where
@@ -187,7 +188,7 @@ judges_put {Q = Q} {F = F} d declared n next g h = go (ltb (length declared) 256
 pub put_given : (d : DeclarationT) (declared : Environment) (n : ℕ) → length declared < 256 → put d declared n ≡ Ok (d ∷ declared)
 put_given d declared n h = put_chain d declared n ∙ then_is _ (need_is _ _ (lt-ltb (length declared) 256 h)) refl
 
-pub put_refused : (d : DeclarationT) (declared : Environment) (n : ℕ) → 256 ≤ length declared → put d declared n ≡ Err (refusal Cramped n)
+pub put_refused : (d : DeclarationT) (declared : Environment) (n : ℕ) → 256 ≤ length declared → put d declared n ≡ Err (refusal_at Cramped n)
 put_refused d declared n h = put_chain d declared n ∙ err_then _ (need_not _ _ (le-ltb (length declared) 256 h))
 
 cost_is : {t : Table} {Γ : Scope} {e : ℕ} {ty : TypeT} {k : DeclarationKind} (i : Initial t Γ e ty k) → declaration_cost k ≡ initial_steps i

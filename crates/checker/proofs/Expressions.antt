@@ -14,12 +14,13 @@ use Rattle.procedure.specs.declared.types.«Type».{«Type» as TypeT}
 use Rattle.procedure.specs.declared.types.«Type».TheVariants.{Integer, Boolean}
 use Rattle.procedure.specs.Formed.{Formed}
 use Rattle.procedure.specs.Operator.{unary_operator_of, binary_operator_of}
+use Rattle.procedure.specs.Refusal.{refusal_at}
+use Rattle.procedure.specs.Sequence.{Answer}
 use Rattle.procedure.specs.Table.{Table, node, part, is_expression}
 use Rattle.checker.specs.declared.names.Meaning.{Meaning}
-use Rattle.checker.specs.declared.names.Meaning.TheVariants.{Nothing, Mark, Object}
+use Rattle.checker.specs.declared.names.Meaning.TheVariants.{Mark, Object}
 use Rattle.checker.specs.Allowed.{Scope, UnaryTakes, takes_plus, takes_minus, takes_abs, takes_not, BinaryTakes, takes_arithmetic, takes_relation, takes_logical, Typed, typed_numeral, typed_name, typed_unary, typed_binary}
-use Rattle.checker.specs.Answer.{Answer}
-use Rattle.checker.specs.Faults.{refusal, NoObject, ExpressionFault, unknown_name, in_operand, mismatched_operand, in_left, in_right, mismatched_operands}
+use Rattle.checker.specs.Faults.{NoObject, ExpressionFault, unknown_name, in_operand, mismatched_operand, in_left, in_right, mismatched_operands}
 use Rattle.checker.specs.Names.{means_inside}
 use Rattle.checker.specs.Region.{Environment}
 use Rattle.checker.specs.Typing.{object_type, unary_type, binary_type, typed_as, typed, same_type}
@@ -52,10 +53,16 @@ pub some_of : {A : Type 0} (o : Option A) → is_some o ≡ true → (x : A) × 
 some_of (Some x) e = (x, refl)
 some_of None e = absurd (false≢true e)
 
-object-judged : (m : Meaning) (n : ℕ) → Judges (λ ty. (c : Bool) × (m ≡ Object ty c)) (λ r. NoObject m × (r ≡ refusal Unknown n)) (object_type m n)
-object-judged Nothing n = fails ((λ ty c e. let z : ◌≡◌ {A = ℕ} 0 1 = cc in omega arith), refl)
-object-judged (Mark x) n = fails ((λ ty c e. let z : ◌≡◌ {A = ℕ} 0 1 = cc in omega arith), refl)
-object-judged (Object ty c) n = passes (c, refl)
+pub none_no_object : NoObject None
+none_no_object ty c e = let z : ◌≡◌ {A = ℕ} 0 1 = cc in omega arith
+
+pub mark_no_object : (x : TypeT) → NoObject (Some (Mark x))
+mark_no_object x ty c e = let z : ◌≡◌ {A = ℕ} 0 1 = cc in omega arith
+
+object-judged : (m : Option Meaning) (n : ℕ) → Judges (λ ty. (c : Bool) × (m ≡ Some (Object ty c))) (λ r. NoObject m × (r ≡ refusal_at Unknown n)) (object_type m n)
+object-judged None n = fails (none_no_object, refl)
+object-judged (Some (Mark x)) n = fails (mark_no_object x, refl)
+object-judged (Some (Object ty c)) n = passes (c, refl)
 
 takes_one : (o : UnaryOperator) (x ty : TypeT) (n : ℕ) → UnaryTakes o x ty → unary_type (Some o) x n ≡ Ok ty
 takes_one o x ty n takes_plus = refl
@@ -80,7 +87,7 @@ refuses_two : (o : BinaryOperator) (x y : TypeT) (n : ℕ) (r : Refusal) → bin
 refuses_two o x y n r e ty h = let g = takes_two o x y ty n h in let z : ◌≡◌ {A = ℕ} 0 1 = cc in omega arith
 
 unary_judged : (o : UnaryOperator) (x : TypeT) (n : ℕ)
-    → Judges (UnaryTakes o x) (λ r. ((ty : TypeT) → UnaryTakes o x ty → ⊥) × (r ≡ refusal Mismatched n)) (unary_type (Some o) x n)
+    → Judges (UnaryTakes o x) (λ r. ((ty : TypeT) → UnaryTakes o x ty → ⊥) × (r ≡ refusal_at Mismatched n)) (unary_type (Some o) x n)
 unary_judged Plus Integer n = passes takes_plus
 unary_judged Plus Boolean n = fails (refuses_one Plus Boolean n _ refl, refl)
 unary_judged Minus Integer n = passes takes_minus
@@ -91,7 +98,7 @@ unary_judged Not Integer n = fails (refuses_one Not Integer n _ refl, refl)
 unary_judged Not Boolean n = passes takes_not
 
 binary_judged : (o : BinaryOperator) (x y : TypeT) (n : ℕ)
-    → Judges (BinaryTakes o x y) (λ r. ((ty : TypeT) → BinaryTakes o x y ty → ⊥) × (r ≡ refusal Mismatched n)) (binary_type (Some o) x y n)
+    → Judges (BinaryTakes o x y) (λ r. ((ty : TypeT) → BinaryTakes o x y ty → ⊥) × (r ≡ refusal_at Mismatched n)) (binary_type (Some o) x y n)
 binary_judged (Arithmetic o) Integer Integer n = passes takes_arithmetic
 binary_judged (Arithmetic o) Integer Boolean n = fails (refuses_two (Arithmetic o) Integer Boolean n _ refl, refl)
 binary_judged (Arithmetic o) Boolean y n = fails (refuses_two (Arithmetic o) Boolean y n _ refl, refl)

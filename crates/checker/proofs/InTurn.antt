@@ -4,10 +4,11 @@ use Rattle.procedure.specs.declared.kind.DeclarationKind.{DeclarationKind}
 use Rattle.procedure.specs.declared.kind.StatementKind.{StatementKind}
 use Rattle.procedure.specs.declared.table.Standing.{Standing}
 use Rattle.procedure.specs.declared.table.Standing.TheVariants.{End, Unlisted, Procedure, Declaration, Statement, Expression}
+use Rattle.procedure.specs.Sequence.{Answer, and_then}
 use Rattle.procedure.specs.Table.{Table, node, standing}
 use Rattle.checker.specs.declared.answer.Sheet.{Sheet}
 use Rattle.checker.specs.declared.names.Declaration.{Declaration as DeclarationT}
-use Rattle.checker.specs.Answer.{Answer, and_then, sheet}
+use Rattle.checker.specs.Answer.{sheet}
 use Rattle.checker.specs.Cost.{held, in_turn}
 use Rattle.checker.specs.Region.{Environment, put}
 use Rattle.checker.specs.Walk.{declaration_cost, declaration, Opened, Declares, declares, declarations, Walks, statement, states, statements}

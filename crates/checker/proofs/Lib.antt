@@ -1,10 +1,11 @@
 mod Unrolled
 mod Capping
 mod InTurn
+mod Named
 mod Shapes
-mod Chains
+pub mod Chains
 mod Scopes
-mod Expressions
+pub mod Expressions
 mod Declared
 mod Stated
 mod Reasons

@@ -5,7 +5,7 @@ use Rattle.procedure.specs.declared.kind.DeclarationKind.TheVariants.{Parameter,
 use Rattle.procedure.specs.declared.types.«Type».{«Type» as TypeT}
 use Rattle.checker.specs.declared.names.Declaration.{Declaration as DeclarationT}
 use Rattle.checker.specs.declared.names.Meaning.{Meaning}
-use Rattle.checker.specs.declared.names.Meaning.TheVariants.{Nothing, Object}
+use Rattle.checker.specs.declared.names.Meaning.TheVariants.{Object}
 use Rattle.checker.specs.Allowed.{Scope, standard, begin_region, hide, declare, object_of}
 use Rattle.checker.specs.Names.{means_inside}
 use Rattle.checker.specs.Region.{Environment, is_taken}
@@ -19,7 +19,7 @@ abbrev pub Alike : Environment → Scope → Type 0
 Alike declared Γ = Sees None declared Γ
 
 pub sees_inside : (declared : Environment) (Γ : Scope) (own : ℕ) → Alike declared Γ → Sees (Some own) declared (hide own Γ)
-sees_inside declared Γ own same x = ap (λ (m : Meaning). cond (eqb own x) Nothing m) (same x)
+sees_inside declared Γ own same x = ap (λ (m : Option Meaning). cond (eqb own x) None m) (same x)
 
 -- The same, and the names of the region that began with base declarations open.
 pub record Agrees (base : ℕ) (declared : Environment) (Γ : Scope) : Type 0 where
@@ -30,8 +30,8 @@ pub record Agrees (base : ℕ) (declared : Environment) (Γ : Scope) : Type 0 wh
 pub alike_declare : (declared : Environment) (Γ : Scope) (d : DeclarationT) (m : Meaning) → m ≡ Object d.of_type d.constant → Alike declared Γ
     → Alike (d ∷ declared) (declare d.name m Γ)
 alike_declare declared Γ d m e same x =
-    ap (λ (o : Meaning). cond (eqb d.name x) o (Γ.means x)) e
-    ∙ ap (λ (o : Meaning). cond (eqb d.name x) (Object d.of_type d.constant) o) (same x)
+    ap (λ (o : Meaning). cond (eqb d.name x) (Some o) (Γ.means x)) e
+    ∙ ap (λ (o : Option Meaning). cond (eqb d.name x) (Some (Object d.of_type d.constant)) o) (same x)
 
 pub agrees_begin : (declared : Environment) (Γ : Scope) → Alike declared Γ → Agrees (length declared) declared (begin_region Γ)
 agrees_begin declared Γ same = record {

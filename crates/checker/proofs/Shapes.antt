@@ -18,8 +18,8 @@ use Rattle.procedure.specs.Formed.{Formed}
 use Rattle.procedure.specs.Kind.{kind_of}
 use Rattle.procedure.specs.Layout.{layout}
 use Rattle.procedure.specs.Level.{level, level_by}
-use Rattle.procedure.specs.Naming.{naming, is_used, is_once}
-use Rattle.procedure.specs.Rules.{fits, in_order, number_holds, values_hold, name_holds}
+use Rattle.procedure.specs.Naming.{naming, is_once}
+use Rattle.procedure.specs.Rules.{fits, in_order, part_holds, part_in_order, number_holds, values_hold, name_holds}
 use Rattle.procedure.specs.Table.{Table, node, blank, part, standing, standing_of, layout_at, is_procedure, is_expression, is_declaration, is_local, is_statement}
 use Rattle.procedure.specs.Tree.{Refers, by_a, by_b, by_c, by_next, Names}
 use Rattle.procedure.proofs.Levels.{level_law}
@@ -68,16 +68,16 @@ pub part-declaration : (t : Table) (n : ℕ) (k : DeclarationKind) → standing 
 part-declaration t n k q = part_is t n ∙ ap kind_in q
 
 -- The level of a node goes by the one reference that names it.
-named_level : (t : Table) → Formed t → (m n : ℕ) (r : Role) → Refers t m r n → is_used r ≡ true → 0 < n → n < length t
+named_level : (t : Table) → Formed t → (m n : ℕ) (r : Role) → Refers t m r n → 0 < n → n < length t
     → level t n ≡ level_by (level t) (Once m r)
-named_level t w m n r refers used some inside = go (naming t n) refl (or_cases (eqb n 0) (is_once (naming t n)) (holds t n (w.obeys n inside)).named_at)
+named_level t w m n r refers some inside = go (naming t n) refl (or_cases (eqb n 0) (is_once (naming t n)) (holds t n (w.obeys n inside)).named_at)
   where
     go : (s : Naming) → naming t n ≡ s → (eqb n 0 ≡ true) ⊎ (is_once (naming t n) ≡ true) → level t n ≡ level_by (level t) (Once m r)
     go s e (inl z) = absurd (let y = eqb-true n 0 z in omega arith)
     go Never e (inr o) = absurd (false≢true (sym (ap is_once e) ∙ o))
     go Often e (inr o) = absurd (false≢true (sym (ap is_once e) ∙ o))
     go (Once k q) e (inr o) =
-        let h : Names t m n = record { role = r; used = used; part = some; refers = refers } in
+        let h : Names t m n = record { role = r; part = some; refers = refers } in
         let x = named_only_by t n k m q e h in
         level_law t w.obeys n inside ∙ ap (level_by (level t)) e ∙ ap (λ i. level_by (level t) (Once i q)) (sym x.0)
         ∙ ap (λ i. level_by (level t) (Once m i)) (sym x.1)
@@ -86,33 +86,43 @@ named_level t w m n r refers used some inside = go (naming t n) refl (or_cases (
 pub record Reference (t : Table) (n : ℕ) (r : Role) (m : ℕ) : Type 0 where
   pub fitting : fits t r m ≡ true
   pub order : in_order n r m ≡ true
-  pub deeper : is_used r ≡ true → 0 < m → m < length t → level t m ≡ level_by (level t) (Once n r)
+  pub deeper : 0 < m → m < length t → level t m ≡ level_by (level t) (Once n r)
+
+-- The same where the field is used.
+abbrev pub Referred : (t : Table) (n : ℕ) (o : Option Role) (m : ℕ) → Type 0
+Referred t n None m = Unit {0}
+Referred t n (Some r) m = Reference t n r m
+
+referred : (t : Table) → Formed t → (n : ℕ) (o : Option Role) (m : ℕ) → part_holds t o m ≡ true → part_in_order n o m ≡ true
+    → ((r : Role) → o ≡ Some r → Refers t n r m) → Referred t n o m
+referred t w n None m f o h = tt
+referred t w n (Some r) m f o h = record { fitting = f; order = o; deeper = named_level t w n m r (h r refl) }
 
 -- The fields of node n, by its layout.
 pub record Fields (t : Table) (n : ℕ) (l : Layout) : Type 0 where
   pub lo : number_holds l.lo (node t n).lo ≡ true
-  pub a : Reference t n l.a (node t n).a
-  pub b : Reference t n l.b (node t n).b
-  pub c : Reference t n l.c (node t n).c
-  pub next : Reference t n l.next (node t n).next
+  pub a : Referred t n l.a (node t n).a
+  pub b : Referred t n l.b (node t n).b
+  pub c : Referred t n l.c (node t n).c
+  pub next : Referred t n l.next (node t n).next
 
 fields_at : (t : Table) → Formed t → (n : ℕ) → n < length t → Fields t n (layout_at t n)
 fields_at t w n h =
     let x = holds t n (w.obeys n h) in
     let s = and_parts (values_hold (layout_at t n) (node t n)) _ x.sorted_at in
     let v = and_parts (name_holds (layout_at t n).name (node t n).name) _ s.0 in
-    let fa = and_parts (fits t (layout_at t n).a (node t n).a) _ s.1 in
-    let fb = and_parts (fits t (layout_at t n).b (node t n).b) _ fa.1 in
-    let fc = and_parts (fits t (layout_at t n).c (node t n).c) _ fb.1 in
-    let oa = and_parts (in_order n (layout_at t n).a (node t n).a) _ x.ordered_at in
-    let ob = and_parts (in_order n (layout_at t n).b (node t n).b) _ oa.1 in
-    let oc = and_parts (in_order n (layout_at t n).c (node t n).c) _ ob.1 in
+    let fa = and_parts (part_holds t (layout_at t n).a (node t n).a) _ s.1 in
+    let fb = and_parts (part_holds t (layout_at t n).b (node t n).b) _ fa.1 in
+    let fc = and_parts (part_holds t (layout_at t n).c (node t n).c) _ fb.1 in
+    let oa = and_parts (part_in_order n (layout_at t n).a (node t n).a) _ x.ordered_at in
+    let ob = and_parts (part_in_order n (layout_at t n).b (node t n).b) _ oa.1 in
+    let oc = and_parts (part_in_order n (layout_at t n).c (node t n).c) _ ob.1 in
     record {
       lo = (and_parts (number_holds (layout_at t n).lo (node t n).lo) _ v.1).0;
-      a = record { fitting = fa.0; order = oa.0; deeper = named_level t w n (node t n).a _ (by_a refl refl) };
-      b = record { fitting = fb.0; order = ob.0; deeper = named_level t w n (node t n).b _ (by_b refl refl) };
-      c = record { fitting = fc.0; order = oc.0; deeper = named_level t w n (node t n).c _ (by_c refl refl) };
-      next = record { fitting = fc.1; order = oc.1; deeper = named_level t w n (node t n).next _ (by_next refl refl) };
+      a = referred t w n (layout_at t n).a (node t n).a fa.0 oa.0 (λ r e. by_a e refl);
+      b = referred t w n (layout_at t n).b (node t n).b fb.0 ob.0 (λ r e. by_b e refl);
+      c = referred t w n (layout_at t n).c (node t n).c fc.0 oc.0 (λ r e. by_c e refl);
+      next = referred t w n (layout_at t n).next (node t n).next fc.1 oc.1 (λ r e. by_next e refl);
     }
 
 fields_of : (t : Table) → Formed t → (n : ℕ) (k : Option Kind) → n < length t → kind_of (node t n).kind ≡ k → Fields t n (layout k)
@@ -150,13 +160,13 @@ expression_within t e h = go (part t e) refl h
 pub expressed_root : (t : Table) (n m : ℕ) → Reference t n Root m → Expressed t 32 m
 expressed_root t n m h =
     let i = expression_within t m h.fitting in
-    let e : level t m ≡ 1 = h.deeper refl i.0 i.1 in
+    let e : level t m ≡ 1 = h.deeper i.0 i.1 in
     record { expression = h.fitting; enough = omega arith }
 
 pub expressed_operand : (t : Table) (n m l : ℕ) → Reference t n Operand m → 33 ≤ suc l + level t n → Expressed t l m
 expressed_operand t n m l h g =
     let i = expression_within t m h.fitting in
-    let e : level t m ≡ suc (level t n) = h.deeper refl i.0 i.1 in
+    let e : level t m ≡ suc (level t n) = h.deeper i.0 i.1 in
     record { expression = h.fitting; enough = omega arith }
 
 -- In a formed table the levels never run out.

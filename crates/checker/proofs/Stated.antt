@@ -1,5 +1,5 @@
 -- A list of statements is walked through exactly if the rules allow it with room, and else its first fault is theirs.
-use Rattle.std.proofs.Common.{◌≡◌, ℕ, zero, suc, ◌+◌, ◌*◌, ◌≤◌, true, false, ◌∷◌, length, Some, None, Ok, Err, sym, refl, ap, ◌∙◌, subst, arith}
+use Rattle.std.proofs.Common.{◌≡◌, ℕ, zero, suc, ◌+◌, ◌*◌, ◌≤◌, true, false, ◌∷◌, length, Some, None, Ok, Err, Option, sym, refl, ap, ◌∙◌, subst, arith}
 use Rattle.procedure.specs.declared.kind.Kind.TheVariants.{Statement as StatementKindT}
 use Rattle.procedure.specs.declared.kind.StatementKind.{StatementKind}
 use Rattle.procedure.specs.declared.kind.StatementKind.TheVariants.{Null, Assignment, If, For, Block, Get, Put}
@@ -12,15 +12,16 @@ use Rattle.procedure.specs.declared.types.«Type».{«Type» as TypeT}
 use Rattle.procedure.specs.declared.types.«Type».TheVariants.{Integer, Boolean}
 use Rattle.procedure.specs.Formed.{Formed}
 use Rattle.procedure.specs.Layout.{layout}
+use Rattle.procedure.specs.Refusal.{refusal_at}
+use Rattle.procedure.specs.Sequence.{Answer}
 use Rattle.procedure.specs.Table.{Table, node, standing}
 use Rattle.checker.specs.declared.answer.Sheet.{Sheet}
 use Rattle.checker.specs.declared.names.Declaration.{Declaration as DeclarationT}
 use Rattle.checker.specs.declared.names.Meaning.{Meaning}
-use Rattle.checker.specs.declared.names.Meaning.TheVariants.{Nothing, Mark, Object}
+use Rattle.checker.specs.declared.names.Meaning.TheVariants.{Mark, Object}
 use Rattle.checker.specs.Allowed.{Scope, begin_region, variable, constant, Typed, Declarations, inside_for, Statement, nulls, assigns, branches, loops, blocks, gets, puts, Statements, ends, follows}
-use Rattle.checker.specs.Answer.{Answer}
 use Rattle.checker.specs.Cost.{turns_of, exact}
-use Rattle.checker.specs.Faults.{refusal, ExpressionFault, DeclarationsFault, TargetFault, unknown_target, fixed_target, StatementFault, in_assignment_target, in_assigned, mismatched_assignment, in_condition, mismatched_condition, in_then, in_else, cramped_for, in_body, in_block_declarations, in_block, in_get_target, in_put, StatementsFault, in_first, in_rest}
+use Rattle.checker.specs.Faults.{NoObject, ExpressionFault, DeclarationsFault, TargetFault, unknown_target, fixed_target, StatementFault, in_assignment_target, in_assigned, mismatched_assignment, in_condition, mismatched_condition, in_then, in_else, cramped_for, in_body, in_block_declarations, in_block, in_get_target, in_put, StatementsFault, in_first, in_rest}
 use Rattle.checker.specs.Measure.{count, declared_steps, steps, steps_in, most_open, most_open_in, depth, depth_in}
 use Rattle.checker.specs.Names.{means}
 use Rattle.checker.specs.Region.{Environment}
@@ -28,7 +29,7 @@ use Rattle.checker.specs.Typing.{target_type}
 use Rattle.checker.specs.Walk.{Declares, Walks, type_at, declarations, statement, states, statements}
 use Rattle.checker.proofs.Chains.{assignment_chain, get_chain, put_statement_chain, if_chain, for_chain, block_chain, states_chain, Judges, passes, fails, judges_then, judges_need, Gives, gives, gives_then, ok_then, need_then, then_is, need_is, err_then, gives_is, need_not}
 use Rattle.checker.proofs.Declared.{judges_put, put_given, put_refused, OpenedWell, declarations-judged, OpenedSo, declarations_given, declarations_refused}
-use Rattle.checker.proofs.Expressions.{same_true, same_self, same_false, different, type-judged, type_given, type_refused}
+use Rattle.checker.proofs.Expressions.{none_no_object, mark_no_object, same_true, same_self, same_false, different, type-judged, type_given, type_refused}
 use Rattle.checker.proofs.Scopes.{Alike, Agrees, alike_declare, agrees_begin}
 use Rattle.checker.proofs.Shapes.{part-statement, Reference, Fields, fields, Expressed, expressed_root, Listed, states as states_list, states_here, nodes_last, following_list, alternative_list, statements_list, locals_list}
 
@@ -47,16 +48,16 @@ next-statements t w f s k q h = let p = part-statement t s k q in go k (λ x. fo
     go Put g x = g x.next
 
 target-judged : (t : Table) (declared : Environment) (Γ : Scope) (s : ℕ) → Alike declared Γ
-    → Judges (λ ty. Γ.means (node t s).name ≡ variable ty) (TargetFault t Γ s) (target_type (means declared (node t s).name) s)
+    → Judges (λ ty. Γ.means (node t s).name ≡ Some (variable ty)) (TargetFault t Γ s) (target_type (means declared (node t s).name) s)
 target-judged t declared Γ s same = go (means declared (node t s).name) (same (node t s).name)
   where
-    go : (m : Meaning) → Γ.means (node t s).name ≡ m → Judges (λ ty. Γ.means (node t s).name ≡ variable ty) (TargetFault t Γ s) (target_type m s)
-    go Nothing q = fails (unknown_target (λ ty c e. let z : ◌≡◌ {A = ℕ} 0 1 = cc in omega arith))
-    go (Mark x) q = fails (unknown_target (λ ty c e. let z : ◌≡◌ {A = ℕ} 0 1 = cc in omega arith))
-    go (Object ty false) q = passes q
-    go (Object ty true) q = fails (fixed_target q)
+    go : (m : Option Meaning) → Γ.means (node t s).name ≡ m → Judges (λ ty. Γ.means (node t s).name ≡ Some (variable ty)) (TargetFault t Γ s) (target_type m s)
+    go None q = fails (unknown_target (subst NoObject (sym q) none_no_object))
+    go (Some (Mark x)) q = fails (unknown_target (subst NoObject (sym q) (mark_no_object x)))
+    go (Some (Object ty false)) q = passes q
+    go (Some (Object ty true)) q = fails (fixed_target q)
 
-target_given : (t : Table) (declared : Environment) (Γ : Scope) (s : ℕ) (ty : TypeT) → Alike declared Γ → Γ.means (node t s).name ≡ variable ty
+target_given : (t : Table) (declared : Environment) (Γ : Scope) (s : ℕ) (ty : TypeT) → Alike declared Γ → Γ.means (node t s).name ≡ Some (variable ty)
     → target_type (means declared (node t s).name) s ≡ Ok ty
 target_given t declared Γ s ty same q = ap (λ m. target_type m s) (sym (same (node t s).name) ∙ q)
 
@@ -348,10 +349,10 @@ target_refused : (t : Table) (declared : Environment) (Γ : Scope) (s : ℕ) (r 
     → target_type (means declared (node t s).name) s ≡ Err r
 target_refused t declared Γ s r same (unknown_target n) = go (means declared (node t s).name) (same (node t s).name)
   where
-    go : (m : Meaning) → Γ.means (node t s).name ≡ m → target_type m s ≡ Err (refusal Unknown s)
-    go Nothing q = refl
-    go (Mark ty) q = refl
-    go (Object ty c) q = absurd (n ty c q)
+    go : (m : Option Meaning) → Γ.means (node t s).name ≡ m → target_type m s ≡ Err (refusal_at Unknown s)
+    go None q = refl
+    go (Some (Mark ty)) q = refl
+    go (Some (Object ty c)) q = absurd (n ty c q)
 target_refused t declared Γ s r same (fixed_target q) = ap (λ m. target_type m s) (sym (same (node t s).name) ∙ q)
 
 module _ (t : Table) (w : Formed t) where

@@ -9,14 +9,15 @@ use Rattle.procedure.specs.Form.{is_bulky, too_deep, tested}
 use Rattle.procedure.specs.Formed.{Formed, Lowest, MisshapenAt, by_rule, by_depth, Deserved, bulky, misshapen}
 use Rattle.procedure.specs.Level.{level}
 use Rattle.procedure.specs.Rules.{broken_rule}
+use Rattle.procedure.specs.Refusal.{refusal_at}
+use Rattle.procedure.specs.Sequence.{Answer}
 use Rattle.procedure.specs.Table.{Table, node}
 use Rattle.procedure.proofs.Verdicts.{judged as form_judged}
 use Rattle.checker.specs.declared.answer.Sheet.{Sheet}
 use Rattle.checker.specs.Allowed.{standard, begin_region, Allowed}
-use Rattle.checker.specs.Answer.{Answer}
 use Rattle.checker.specs.Cost.{exact}
 use Rattle.checker.specs.Exactly.{Passes}
-use Rattle.checker.specs.Faults.{refusal, StatementsFault, FirstFault, taken_procedure, in_declarations, in_statements}
+use Rattle.checker.specs.Faults.{StatementsFault, FirstFault, taken_procedure, in_declarations, in_statements}
 use Rattle.checker.specs.Measure.{count, declared_steps, steps, most_open, sheet_of, Limited}
 use Rattle.checker.specs.Rightly.{Sized, TooLong, RightFor, RefusedRightly}
 use Rattle.checker.specs.Walk.{procedure, judged, checked}
@@ -182,9 +183,9 @@ fault_refused t w r wide formed (in_statements {Γ = Γ} fresh ds room d) =
     ∙ gives_is _ (declarations_given t formed 0 (length t) [] (begin_region standard) (node t 0).a Γ (first-declarations t formed) agrees_start ds (omega arith)) λ o v.
     err_then _ (statements_refused t formed (length t) o.declared Γ (count ds) (node t 0).b r (first-statements t formed) v.agrees.alike (v.longer ∙ (omega arith)) d)))
 
-long_refused : (t : Table) (w : ℕ) → 256 ≤ w → Formed t → TooLong t → checked t w ≡ Err (refusal Overlong 0)
+long_refused : (t : Table) (w : ℕ) → 256 ≤ w → Formed t → TooLong t → checked t w ≡ Err (refusal_at Overlong 0)
 long_refused t w wide formed p =
-    walk_checked t w (Err (refusal Overlong 0)) wide formed p.allowed.fresh
+    walk_checked t w (Err (refusal_at Overlong 0)) wide formed p.allowed.fresh
     (judged_chain (procedure exact (length t) t)
     ∙ gives_is _ (procedure_given t formed p.allowed p.few) λ x told.
     let c = ap (λ (s : Sheet). s.ceiling) told in
@@ -206,14 +207,14 @@ misshapen_one t m n (by_rule k) (by_depth o l) = absurd (let a = o m k.within in
 misshapen_one t m n (by_depth o k) (by_rule l) = absurd (let a = o n l.within in let b = l.breaks in let z : ◌≡◌ {A = ℕ} 0 1 = cc in omega arith)
 misshapen_one t m n (by_depth o k) (by_depth p l) = lowest_one t (too_deep t) m n k l
 
-form_refused : (t : Table) (n : ℕ) → is_bulky t ≡ false → MisshapenAt t n → tested t ≡ Err (refusal Misshapen n)
+form_refused : (t : Table) (n : ℕ) → is_bulky t ≡ false → MisshapenAt t n → tested t ≡ Err (refusal_at Misshapen n)
 form_refused t n small m = go (tested t) (form_judged t)
   where
-    told : (e : Refusal) → Deserved t e → e ≡ refusal Misshapen n
+    told : (e : Refusal) → Deserved t e → e ≡ refusal_at Misshapen n
     told e (bulky b q) = absurd (both_ways (is_bulky t) small b)
     told e (misshapen k q) = let p = misshapen_one t e.node n k m in λ i. record { reason = q i; node = p i }
 
-    go : (r : Answer (Unit {0})) → MatchResult r (λ _. Formed t) (Deserved t) → r ≡ Err (refusal Misshapen n)
+    go : (r : Answer (Unit {0})) → MatchResult r (λ _. Formed t) (Deserved t) → r ≡ Err (refusal_at Misshapen n)
     go (Ok x) h = absurd (formed_unbroken t h n m)
     go (Err e) h = ap Err (told e h)
 
@@ -221,7 +222,7 @@ form_refused t n small m = go (tested t) (form_judged t)
 right_refused : (t : Table) (w : ℕ) (e : Refusal) → RefusedRightly t w e → checked t w ≡ Err e
 right_refused t w e h = go e.reason refl h
   where
-    at_zero : (reason : Reason) → e.reason ≡ reason → e.node ≡ 0 → refusal reason 0 ≡ e
+    at_zero : (reason : Reason) → e.reason ≡ reason → e.node ≡ 0 → refusal_at reason 0 ≡ e
     at_zero reason q p = λ i. record { reason = sym q i; node = sym p i }
 
     small : Sized t → is_bulky t ≡ false

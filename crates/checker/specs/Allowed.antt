@@ -1,5 +1,5 @@
 -- What the language allows: the rules of visibility and of types, over the table alone. Assumes nothing.
-use Rattle.std.specs.Prelude.{◌≡◌, ℕ, Bool, true, false, cond, ℤ, pos, Some, ◌==◌, nat_le}
+use Rattle.std.specs.Prelude.{◌≡◌, ℕ, Bool, true, false, cond, ℤ, pos, Some, None, Option, ◌==◌, nat_le}
 use Rattle.procedure.specs.declared.kind.Kind.TheVariants.{Expression}
 use Rattle.procedure.specs.declared.kind.DeclarationKind.{DeclarationKind}
 use Rattle.procedure.specs.declared.kind.DeclarationKind.TheVariants.{Parameter, Variable, Constant}
@@ -18,13 +18,13 @@ use Rattle.procedure.specs.declared.types.«Type».TheVariants.{Integer, Boolean
 use Rattle.procedure.specs.Operator.{unary_operator_of, binary_operator_of}
 use Rattle.procedure.specs.Table.{Table, node, part, standing}
 use Rattle.checker.specs.declared.names.Meaning.{Meaning}
-use Rattle.checker.specs.declared.names.Meaning.TheVariants.{Nothing, Mark, Object}
+use Rattle.checker.specs.declared.names.Meaning.TheVariants.{Mark, Object}
 use Rattle.checker.specs.Names.{predefined}
 
 -- What is visible at a place: which names the current region declares, and what each name means.
 pub record Scope : Type 0 where
   pub local : ℕ → Bool
-  pub means : ℕ → Meaning
+  pub means : ℕ → Option Meaning
 
 -- Around every procedure: the names up to 16 are declared, and mean what is predefined.
 abbrev pub standard : Scope
@@ -36,11 +36,11 @@ begin_region Γ = record { local = λ x. false; means = Γ.means }
 
 -- Inside its own declaration a name means nothing, even if an outer one exists.
 abbrev pub hide : ℕ → Scope → Scope
-hide i Γ = record { local = Γ.local; means = λ x. cond (i == x) Nothing (Γ.means x) }
+hide i Γ = record { local = Γ.local; means = λ x. cond (i == x) None (Γ.means x) }
 
 -- Behind its declaration a name is one of the region's, and means what is declared.
 abbrev pub declare : ℕ → Meaning → Scope → Scope
-declare i m Γ = record { local = λ x. cond (i == x) true (Γ.local x); means = λ x. cond (i == x) m (Γ.means x) }
+declare i m Γ = record { local = λ x. cond (i == x) true (Γ.local x); means = λ x. cond (i == x) (Some m) (Γ.means x) }
 
 -- an object that can be given a value, and one that cannot
 abbrev pub variable : TypeT → Meaning
@@ -57,7 +57,7 @@ object_of Constant ty = constant ty
 
 -- the type mark, a name in a field lo, denotes the type
 abbrev pub Marks : Scope → ℤ → TypeT → Type 0
-Marks Γ lo ty = (i : ℕ) × (lo ≡ pos i) × (Γ.means i ≡ Mark ty)
+Marks Γ lo ty = (i : ℕ) × (lo ≡ pos i) × (Γ.means i ≡ Some (Mark ty))
 
 -- Plus, minus and abs take INTEGER, not takes BOOLEAN.
 pub data UnaryTakes : UnaryOperator → TypeT → TypeT → Type 0 where
@@ -75,7 +75,7 @@ pub data BinaryTakes : BinaryOperator → TypeT → TypeT → TypeT → Type 0 w
 -- The expression at e has the type ty.
 pub data Typed (t : Table) (Γ : Scope) : ℕ → TypeT → Type 0 where
   typed_numeral : {e : ℕ} → part t e ≡ Some (Expression Numeral) → Typed t Γ e Integer
-  typed_name : {e : ℕ} {ty : TypeT} {c : Bool} → part t e ≡ Some (Expression Name) → Γ.means (node t e).name ≡ Object ty c → Typed t Γ e ty
+  typed_name : {e : ℕ} {ty : TypeT} {c : Bool} → part t e ≡ Some (Expression Name) → Γ.means (node t e).name ≡ Some (Object ty c) → Typed t Γ e ty
   typed_unary : {e : ℕ} {x ty : TypeT} {o : UnaryOperator} → part t e ≡ Some (Expression Unary) → unary_operator_of (node t e).lo ≡ Some o
       → Typed t Γ (node t e).a x → UnaryTakes o x ty → Typed t Γ e ty
   typed_binary : {e : ℕ} {x y ty : TypeT} {o : BinaryOperator} → part t e ≡ Some (Expression Binary) → binary_operator_of (node t e).lo ≡ Some o
@@ -111,14 +111,14 @@ mutual
   -- The statement at s is allowed where Γ holds.
   pub data Statement (t : Table) : Scope → ℕ → Type 0 where
     nulls : {Γ : Scope} {s : ℕ} → standing t s ≡ AStatement Null → Statement t Γ s
-    assigns : {Γ : Scope} {s : ℕ} {ty : TypeT} → standing t s ≡ AStatement Assignment → Γ.means (node t s).name ≡ variable ty → Typed t Γ (node t s).a ty
+    assigns : {Γ : Scope} {s : ℕ} {ty : TypeT} → standing t s ≡ AStatement Assignment → Γ.means (node t s).name ≡ Some (variable ty) → Typed t Γ (node t s).a ty
         → Statement t Γ s
     branches : {Γ : Scope} {s : ℕ} → standing t s ≡ AStatement If → Typed t Γ (node t s).a Boolean → Statements t Γ (node t s).b → Statements t Γ (node t s).c
         → Statement t Γ s
     loops : {Γ : Scope} {s : ℕ} → standing t s ≡ AStatement For → Statements t (inside_for t s Γ) (node t s).a → Statement t Γ s
     blocks : {Γ Γ' : Scope} {s : ℕ} → standing t s ≡ AStatement Block → Declarations t (begin_region Γ) (node t s).a Γ' → Statements t Γ' (node t s).b
         → Statement t Γ s
-    gets : {Γ : Scope} {s : ℕ} {ty : TypeT} → standing t s ≡ AStatement Get → Γ.means (node t s).name ≡ variable ty → Statement t Γ s
+    gets : {Γ : Scope} {s : ℕ} {ty : TypeT} → standing t s ≡ AStatement Get → Γ.means (node t s).name ≡ Some (variable ty) → Statement t Γ s
     puts : {Γ : Scope} {s : ℕ} {ty : TypeT} → standing t s ≡ AStatement Put → Typed t Γ (node t s).a ty → Statement t Γ s
 
   -- The list of statements from s on is allowed where Γ holds.

@@ -11,18 +11,18 @@ use Rattle.procedure.specs.declared.refusal.Reason.TheVariants.{Misshapen, Unmar
 use Rattle.procedure.specs.declared.types.«Type».{«Type» as TypeT}
 use Rattle.procedure.specs.declared.types.«Type».TheVariants.{Integer, Boolean}
 use Rattle.procedure.specs.Operator.{unary_operator_of, binary_operator_of}
+use Rattle.procedure.specs.Sequence.{Answer, refused_at, and_then}
 use Rattle.procedure.specs.Table.{Table, node, part}
 use Rattle.checker.specs.declared.names.Declaration.{Declaration}
 use Rattle.checker.specs.declared.names.Meaning.{Meaning}
-use Rattle.checker.specs.declared.names.Meaning.TheVariants.{Nothing, Mark, Object}
-use Rattle.checker.specs.Answer.{Answer, refused_at, and_then}
+use Rattle.checker.specs.declared.names.Meaning.TheVariants.{Mark, Object}
 use Rattle.checker.specs.Names.{means_inside}
 
 -- the type of an object that a name denotes
-abbrev pub object_type : Meaning → ℕ → Answer TypeT
-object_type Nothing n = refused_at Unknown n
-object_type (Mark t) n = refused_at Unknown n
-object_type (Object t constant) n = Ok t
+abbrev pub object_type : Option Meaning → ℕ → Answer TypeT
+object_type None n = refused_at Unknown n
+object_type (Some (Mark t)) n = refused_at Unknown n
+object_type (Some (Object t constant)) n = Ok t
 
 -- plus, minus and abs want INTEGER, not wants BOOLEAN
 abbrev pub unary_type : Option UnaryOperator → TypeT → ℕ → Answer TypeT
@@ -75,14 +75,14 @@ same_type Boolean Integer = false
 same_type Boolean Boolean = true
 
 -- the type that a mark denotes, where the field lo holds a name that means one
-abbrev pub mark_type : Meaning → ℕ → Answer TypeT
-mark_type Nothing n = refused_at Unmarked n
-mark_type (Mark t) n = Ok t
-mark_type (Object t constant) n = refused_at Unmarked n
+abbrev pub mark_type : Option Meaning → ℕ → Answer TypeT
+mark_type None n = refused_at Unmarked n
+mark_type (Some (Mark t)) n = Ok t
+mark_type (Some (Object t constant)) n = refused_at Unmarked n
 
 -- the type of a target, which is no constant
-abbrev pub target_type : Meaning → ℕ → Answer TypeT
-target_type Nothing n = refused_at Unknown n
-target_type (Mark t) n = refused_at Unknown n
-target_type (Object t false) n = Ok t
-target_type (Object t true) n = refused_at Fixed n
+abbrev pub target_type : Option Meaning → ℕ → Answer TypeT
+target_type None n = refused_at Unknown n
+target_type (Some (Mark t)) n = refused_at Unknown n
+target_type (Some (Object t false)) n = Ok t
+target_type (Some (Object t true)) n = refused_at Fixed n

@@ -1,5 +1,5 @@
 -- The walk of the check: declarations, then statements, in list order, to a sheet or the first fault. Assumes nothing.
-use Rattle.std.specs.Prelude.{ℕ, zero, suc, ◌+◌, ◌-◌, ◌*◌, ◌≤◌, max, Bool, true, false, cond, not, [], length, ℤ, pos, negsuc, IfOk, Some, None, Ok, Err, nat_le}
+use Rattle.std.specs.Prelude.{ℕ, zero, suc, ◌+◌, ◌-◌, ◌*◌, ◌≤◌, max, Bool, true, false, cond, not, [], length, ℤ, pos, negsuc, IfOk, Some, None, Ok, Err, Option, nat_le}
 use Rattle.procedure.specs.declared.kind.DeclarationKind.{DeclarationKind}
 use Rattle.procedure.specs.declared.kind.DeclarationKind.TheVariants.{Parameter, Variable, Constant}
 use Rattle.procedure.specs.declared.kind.StatementKind.{StatementKind}
@@ -10,21 +10,21 @@ use Rattle.procedure.specs.declared.table.Standing.TheVariants.{End, Unlisted, P
 use Rattle.procedure.specs.declared.types.«Type».{«Type» as TypeT}
 use Rattle.procedure.specs.declared.types.«Type».TheVariants.{Integer, Boolean}
 use Rattle.procedure.specs.Form.{is_bulky, tested}
+use Rattle.procedure.specs.Sequence.{Answer, refused_at, and_then, want}
 use Rattle.procedure.specs.Table.{Table, node, standing}
 use Rattle.checker.specs.declared.answer.Sheet.{Sheet}
 use Rattle.checker.specs.declared.names.Declaration.{Declaration as DeclarationT}
 use Rattle.checker.specs.declared.names.Meaning.{Meaning}
-use Rattle.checker.specs.declared.names.Meaning.TheVariants.{Nothing}
-use Rattle.checker.specs.Answer.{Answer, refused_at, and_then, want, sheet}
+use Rattle.checker.specs.Answer.{sheet}
 use Rattle.checker.specs.Cost.{turns_of, exact}
 use Rattle.checker.specs.Names.{means, means_inside}
 use Rattle.checker.specs.Region.{Environment, is_taken, put}
 use Rattle.checker.specs.Typing.{typed, same_type, mark_type, target_type}
 
 -- what the name in the field lo means, inside the declaration of own; a name has 16 bits
-abbrev pub mark_meaning : ℤ → ℕ → Environment → Meaning
-mark_meaning (pos m) own declared = cond (nat_le m 65535) (means_inside (Some own) declared m) Nothing
-mark_meaning (negsuc m) own declared = Nothing
+abbrev pub mark_meaning : ℤ → ℕ → Environment → Option Meaning
+mark_meaning (pos m) own declared = cond (nat_le m 65535) (means_inside (Some own) declared m) None
+mark_meaning (negsuc m) own declared = None
 
 -- an expression has at most 32 levels
 abbrev pub type_at : Table → Environment → ℕ → Answer TypeT
@@ -122,6 +122,13 @@ block_statement cost lists opens t declared n =
     and_then (opens (length declared) declared (node t n).a) λ o.
     and_then (lists o.declared (node t n).b) λ inside.
     Ok (sheet (cost (2 + o.cost + inside.ceiling)) inside.rows (inside.frames + 1))
+
+-- a region: its declarations, which begin at d, then its statements, which begin at s
+abbrev pub region : (ℕ → ℕ) → Walks → (ℕ → Declares) → Environment → ℕ → ℕ → Answer Sheet
+region cost lists opens declared d s =
+    and_then (opens (length declared) declared d) λ o.
+    and_then (lists o.declared s) λ inside.
+    Ok (sheet (cost (o.cost + inside.ceiling)) inside.rows inside.frames)
 
 -- one statement, without what follows it
 abbrev pub statement : (ℕ → ℕ) → Walks → (ℕ → Declares) → StatementKind → Table → Environment → ℕ → Answer Sheet

@@ -1,12 +1,11 @@
 //! What the check answers.
-ghost use Rattle.std.specs.Prelude.{◌≡◌, Some};
-ghost use Rattle.checker.specs.Answer.{want, sheet_text};
+ghost use Rattle.std.specs.Prelude.{Some};
+ghost use Rattle.checker.specs.Answer.{sheet_text};
 
-use procedure::{Reason, Refusal};
 use std::fmt;
 
 /// What a run of a procedure is to be given: steps, rows and frames.
-#[derive(Clone, Copy)]
+#[derive(Clone, Copy, PartialEq, Eq, Debug)]
 pub struct Sheet {
     pub ceiling: u64,
     pub rows: u16,
@@ -22,16 +21,5 @@ impl fmt::Display for Sheet {
         let rows = self.rows;
         let frames = self.frames;
         write!(f, "ceiling {ceiling}, rows {rows}, frames {frames}")
-    }
-}
-
-/// Refuses unless the test holds.
-pub fn demand(holds: bool, reason: Reason, node: u16) -> Result<(), Refusal>
-    ensures wanted { result ≡ want holds reason node }
-{
-    if holds {
-        Ok(())
-    } else {
-        Err(Refusal { reason, node })
     }
 }

@@ -1,27 +1,25 @@
 //! The walk over declarations.
 ghost use Rattle.std.specs.Prelude.{◌≡◌, ◌≤◌, length, IfOk};
 ghost use Rattle.stack.specs.Tables.{newest};
-ghost use Rattle.checker.specs.Region.{opened, Ready, Grown};
+ghost use Rattle.checker.specs.Region.{opened, Grown};
 ghost use Rattle.checker.specs.Walk.{mark_meaning, initial, is_constant, declaration_cost, declaration, declarations, with_cost};
 
-use crate::answer::demand;
 use crate::names::{Declaration, Meaning, meaning_inside};
-use crate::region::{OpenCount, declare, declared_in, is_taken};
-use crate::typing::{is_same, mark_type, type_of};
+use crate::open_declarations::OpenDeclarations;
+use crate::region::is_taken;
+use crate::typing::{mark_type, type_of};
 use procedure::kind::DeclarationKind;
 use procedure::limits::MAX_LEVELS;
 use procedure::table::{Standing, node_at, standing_at};
 use procedure::types::Type;
-use procedure::{Node, Reason, Refusal};
+use procedure::{Node, Reason, Refusal, demand};
 
 /// What the name in the field lo means, inside the declaration of `own`.
-fn mark_meaning(declared: &[Declaration], lo: i32, own: u16) -> Meaning
+fn mark_meaning(declared: &[Declaration], lo: i32, own: u16) -> Option<Meaning>
     ensures meant { result ≡ mark_meaning lo own (newest (length declared.now) declared.now) }
 {
-    match u16::try_from(lo) {
-        Ok(mark) => meaning_inside(declared, Some(own), mark),
-        Err(_) => Meaning::Nothing,
-    }
+    let mark = u16::try_from(lo).ok()?;
+    meaning_inside(declared, Some(own), mark)
 }
 
 /// Tests the initial value of the declaration at node `n`, whose mark denotes a type.
@@ -39,7 +37,7 @@ fn check_initial(
         DeclarationKind::Variable | DeclarationKind::Constant => {
             let node = node_at(nodes, n);
             let given = type_of(nodes, declared, Some(node.name), node.a, MAX_LEVELS)?;
-            demand(is_same(given, marked), Reason::Mismatched, n)
+            demand(given == marked, Reason::Mismatched, n)
         }
     }
 }
@@ -47,7 +45,7 @@ fn check_initial(
 fn is_constant(kind: DeclarationKind) -> bool
     ensures told { result ≡ is_constant kind }
 {
-    matches!(kind, DeclarationKind::Constant)
+    kind == DeclarationKind::Constant
 }
 
 fn cost_of(kind: DeclarationKind) -> u64
@@ -65,13 +63,14 @@ fn read_declaration(
     kind: DeclarationKind,
     nodes: &[Node],
     base: usize,
-    declared: &[Declaration],
+    declared: &OpenDeclarations,
     n: u16,
 ) -> Result<Declaration, Refusal>
-    requires within { base ≤ length declared.now }
-    ensures read { result ≡ declaration kind nodes.now base (newest (length declared.now) declared.now) n }
+    requires within { base ≤ length (opened declared.now) }
+    ensures read { result ≡ declaration kind nodes.now base (opened declared.now) n }
 {
     let node = node_at(nodes, n);
+    let declared = declared.items();
     demand(!is_taken(declared, base, node.name), Reason::Taken, n)?;
     let of_type = mark_type(mark_meaning(declared, node.lo, node.name), n)?;
     check_initial(kind, nodes, declared, of_type, n)?;
@@ -83,34 +82,28 @@ fn read_declaration(
 }
 
 /// Opens a list of declarations, in a region that began with `base` declarations open, and gives its cost.
+#[tactic(auto, using(crate::proofs::Unrolled::declares_unrolled, stack::proofs::Newest::newest_laws))]
 pub fn walk_declarations(
     nodes: &[Node],
     base: usize,
     n: u16,
     left: u16,
-    places: &mut [Declaration],
-    count: &mut OpenCount,
+    declared: &mut OpenDeclarations,
 ) -> Result<u64, Refusal>
-    requires ready { Ready count.old places.old }
-    requires within { base ≤ count.old.open }
-    ensures meant { with_cost result (opened count.new places.new) ≡ declarations left nodes.now base (opened count.old places.old) n }
+    requires within { base ≤ length (opened declared.old) }
+    ensures meant { with_cost result (opened declared.new) ≡ declarations left nodes.now base (opened declared.old) n }
     ensures small { IfOk result (λ c. c ≤ left) }
-    ensures grown { Grown count.old places.old count.new places.new }
+    ensures grown { Grown declared.old declared.new }
 {
     let mut at = n;
     let mut cost = 0;
+    // Counts the nodes that are left, as the definition does.
     for _rest in (0..left).rev() {
         match standing_at(nodes, at) {
             Standing::End => return Ok(cost),
             Standing::Declaration(kind) => {
-                let declaration = read_declaration(
-                    kind,
-                    nodes,
-                    base,
-                    declared_in(places, count),
-                    at,
-                )?;
-                declare(places, count, declaration, at)?;
+                let declaration = read_declaration(kind, nodes, base, declared, at)?;
+                declared.put(declaration, at)?;
                 cost += cost_of(kind);
                 at = node_at(nodes, at).next;
             }

@@ -18,6 +18,7 @@ mod answer;
 mod cost;
 mod declarations;
 mod names;
+mod open_declarations;
 mod region;
 mod statements;
 mod typing;

@@ -1,1 +1,2 @@
+mod Topmost
 pub mod Unrolled

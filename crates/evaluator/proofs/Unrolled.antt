@@ -13,8 +13,8 @@ unfolding evaluated
 evaluated_unrolled zero t rows k n h = absurd (h refl)
 evaluated_unrolled (suc levels) t rows k n h = simp unary_clauses
 
-pub evaluated-none : (levels : ℕ) (t : Table) (rows : List Row) (k : ExpressionKind) (n : ℕ) → levels ≡ 0
+pub evaluated_none : (levels : ℕ) (t : Table) (rows : List Row) (k : ExpressionKind) (n : ℕ) → levels ≡ 0
     → evaluated levels t rows k n ≡ Err (TooDeep n)
 unfolding evaluated
-evaluated-none zero t rows k n h = refl
-evaluated-none (suc levels) t rows k n h = absurd (omega arith)
+evaluated_none zero t rows k n h = refl
+evaluated_none (suc levels) t rows k n h = absurd (omega arith)

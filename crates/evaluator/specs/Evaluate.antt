@@ -48,19 +48,20 @@ name_value None x n = cond (x == 15) (Ok (Boolean true)) (cond (x == 16) (Ok (Bo
 abbrev pub Evaluates : Type 0
 Evaluates = ExpressionKind → ℕ → Evaluation
 
+-- the value of the operand m of the operator at n, where below gives the values of expressions
+abbrev pub operand_value : Evaluates → Table → ℕ → ℕ → Evaluation
+operand_value below t n m = and_then (operand_kind t n m) λ k. below k m
+
 -- the value of the expression of a kind at n, where below gives the values of its operands: left, then right, then the operator
 abbrev pub valued : Evaluates → Table → List Row → Evaluates
 valued below t rows Numeral n = Ok (Integer (node t n).lo)
 valued below t rows Name n = name_value (topmost (node t n).name rows) (node t n).name n
 valued below t rows Unary n =
-    and_then (operand_kind t n (node t n).a) λ k.
-    and_then (below k (node t n).a) λ x.
+    and_then (operand_value below t n (node t n).a) λ x.
     unary_value (unary_operator_of (node t n).lo) x n
 valued below t rows Binary n =
-    and_then (operand_kind t n (node t n).a) λ k.
-    and_then (below k (node t n).a) λ l.
-    and_then (operand_kind t n (node t n).b) λ j.
-    and_then (below j (node t n).b) λ r.
+    and_then (operand_value below t n (node t n).a) λ l.
+    and_then (operand_value below t n (node t n).b) λ r.
     binary_value (binary_operator_of (node t n).lo) l r n
 
 -- of an expression so many levels are entered at most; rows are read the newest first

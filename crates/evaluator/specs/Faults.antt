@@ -1,8 +1,13 @@
--- Faults of arithmetic with the node of their operator. Assumes nothing.
-use Rattle.std.specs.Prelude.{ℕ, ℤ, Ok, Err, Result}
-use Rattle.integer.specs.declared.fault.ArithmeticFault.{ArithmeticFault}
-use Rattle.evaluator.specs.declared.fault.Located.{Located}
+-- The number of each fault of an expression. Assumes nothing.
+use Rattle.std.specs.Prelude.{ℕ}
+use Rattle.integer.specs.Fault.{cause_of}
+use Rattle.evaluator.specs.declared.fault.ExpressionFault.{ExpressionFault}
+use Rattle.evaluator.specs.declared.fault.ExpressionFault.TheVariants.{Arithmetic, NoPart, NoRow, Unsuited, TooDeep}
 
-abbrev pub located : Result ℤ ArithmeticFault → ℕ → Result ℤ Located
-located (Ok z) n = Ok z
-located (Err e) n = Err (record { fault = e; node = n })
+-- arithmetic has the first two
+abbrev pub number_of_fault : ExpressionFault → ℕ
+number_of_fault (Arithmetic e n) = cause_of e
+number_of_fault (NoPart n) = 3
+number_of_fault (NoRow n) = 4
+number_of_fault (Unsuited n) = 5
+number_of_fault (TooDeep n) = 6

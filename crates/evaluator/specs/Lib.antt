@@ -1,5 +1,5 @@
+pub mod Faults
 pub mod Values
 pub mod Rows
-pub mod Faults
 pub mod Operators
 pub mod Evaluate

@@ -1,7 +1,7 @@
 //! Evaluating an expression.
 ghost use Rattle.std.specs.Prelude.{◌≡◌, length};
 ghost use Rattle.stack.specs.Tables.{newest};
-ghost use Rattle.evaluator.specs.Evaluate.{expression_of, named_part, operand_kind, row_value, name_value, evaluated, root_value};
+ghost use Rattle.evaluator.specs.Evaluate.{expression_of, named_part, operand_value, row_value, name_value, evaluated, root_value};
 
 use crate::fault::ExpressionFault;
 use crate::operators::{apply_binary, apply_unary};
@@ -9,37 +9,8 @@ use crate::rows::{Placed, Row, find_topmost};
 use crate::value::Value;
 use procedure::kind::ExpressionKind;
 use procedure::limits::MAX_LEVELS;
-use procedure::operator::{BinaryOperator, UnaryOperator};
 use procedure::table::{node_at, part_of};
 use procedure::{Kind, Node, names};
-
-/// The kind of the expression that a reference names.
-fn expression_of(nodes: &[Node], part: u16) -> Option<ExpressionKind>
-    ensures read { result ≡ expression_of nodes.now part }
-{
-    match part_of(nodes, part) {
-        Some(Kind::Expression(kind)) => Some(kind),
-        _ => None,
-    }
-}
-
-/// The same, where node `n` names it.
-fn named_part(kind: Option<ExpressionKind>, n: u16) -> Result<ExpressionKind, ExpressionFault>
-    ensures named { result ≡ named_part kind n }
-{
-    kind.ok_or(ExpressionFault::NoPart(n))
-}
-
-/// The kind of an operand of the operator at node `n`, which has a smaller number.
-fn operand_kind(nodes: &[Node], n: u16, operand: u16) -> Result<ExpressionKind, ExpressionFault>
-    ensures named { result ≡ operand_kind nodes.now n operand }
-{
-    if operand < n {
-        named_part(expression_of(nodes, operand), n)
-    } else {
-        Err(ExpressionFault::NoPart(n))
-    }
-}
 
 /// The value that a row holds, read at node `n`.
 fn row_value(row: Row, n: u16) -> Result<Value, ExpressionFault>
@@ -60,34 +31,61 @@ fn name_value(topmost: Option<Placed>, name: u16, n: u16) -> Result<Value, Expre
     }
 }
 
-/// The value of the expression of a kind at node `n`, of which so many levels may be entered.
-fn evaluate(
-    nodes: &[Node],
-    rows: &[Row],
-    kind: ExpressionKind,
-    n: u16,
-    levels: u16,
-) -> Result<Value, ExpressionFault>
-    ensures evaluated { result ≡ evaluated levels nodes.now (newest (length rows.now) rows.now) kind n }
-{
-    if levels == 0 {
-        return Err(ExpressionFault::TooDeep(n));
+/// What expressions are evaluated by: the node table, and the rows that a run holds.
+#[derive(Clone, Copy)]
+struct Scope<'a> {
+    nodes: &'a [Node],
+    rows: &'a [Row],
+}
+
+impl<'a> Scope<'a> {
+    /// The kind of the expression that node `n` names as a part.
+    fn named_part(self, n: u16, part: u16) -> Result<ExpressionKind, ExpressionFault>
+        ensures named { result ≡ named_part (expression_of self.entry.nodes.now part) n }
+    {
+        let Some(Kind::Expression(kind)) = part_of(self.nodes, part) else {
+            return Err(ExpressionFault::NoPart(n));
+        };
+        Ok(kind)
     }
-    let node = node_at(nodes, n);
-    match kind {
-        ExpressionKind::Numeral => Ok(Value::Integer(node.lo)),
-        ExpressionKind::Name => name_value(find_topmost(rows, node.name), node.name, n),
-        ExpressionKind::Unary => {
-            let kind = operand_kind(nodes, n, node.a)?;
-            let operand = evaluate(nodes, rows, kind, node.a, levels - 1)?;
-            apply_unary(UnaryOperator::of_number(node.lo), operand, n)
+
+    /// The value of an operand of the operator at node `n`, which has a smaller number.
+    #[cycle(evaluation)]
+    fn operand(self, n: u16, operand: u16, levels: u16) -> Result<Value, ExpressionFault>
+        ensures evaluated { result ≡ operand_value
+            (evaluated levels self.entry.nodes.now (newest (length self.entry.rows.now) self.entry.rows.now))
+            self.entry.nodes.now n operand }
+    {
+        if operand >= n {
+            return Err(ExpressionFault::NoPart(n));
         }
-        ExpressionKind::Binary => {
-            let left_kind = operand_kind(nodes, n, node.a)?;
-            let left = evaluate(nodes, rows, left_kind, node.a, levels - 1)?;
-            let right_kind = operand_kind(nodes, n, node.b)?;
-            let right = evaluate(nodes, rows, right_kind, node.b, levels - 1)?;
-            apply_binary(BinaryOperator::of_number(node.lo), left, right, n)
+        let kind = self.named_part(n, operand)?;
+        self.evaluate(kind, operand, levels)
+    }
+
+    /// The value of the expression of a kind at node `n`, of which so many levels may be entered.
+    #[cycle(evaluation)]
+    #[tactic(auto, using(crate::proofs::Unrolled::evaluated_unrolled, crate::proofs::Unrolled::evaluated_none))]
+    fn evaluate(self, kind: ExpressionKind, n: u16, levels: u16) -> Result<Value, ExpressionFault>
+        ensures evaluated { result
+            ≡ evaluated levels self.entry.nodes.now (newest (length self.entry.rows.now) self.entry.rows.now) kind n }
+    {
+        if levels == 0 {
+            return Err(ExpressionFault::TooDeep(n));
+        }
+        let node = node_at(self.nodes, n);
+        match kind {
+            ExpressionKind::Numeral => Ok(Value::Integer(node.lo)),
+            ExpressionKind::Name => name_value(find_topmost(self.rows, node.name), node.name, n),
+            ExpressionKind::Unary => {
+                let operand = self.operand(n, node.a, levels - 1)?;
+                apply_unary(node.unary_operator(), operand, n)
+            }
+            ExpressionKind::Binary => {
+                let left = self.operand(n, node.a, levels - 1)?;
+                let right = self.operand(n, node.b, levels - 1)?;
+                apply_binary(node.binary_operator(), left, right, n)
+            }
         }
     }
 }
@@ -101,6 +99,7 @@ pub fn evaluate_root(
 ) -> Result<Value, ExpressionFault>
     ensures evaluated { result ≡ root_value nodes.now (newest (length rows.now) rows.now) n root }
 {
-    let kind = named_part(expression_of(nodes, root), n)?;
-    evaluate(nodes, rows, kind, root, MAX_LEVELS)
+    let scope = Scope { nodes, rows };
+    let kind = scope.named_part(n, root)?;
+    scope.evaluate(kind, root, MAX_LEVELS)
 }

@@ -1,12 +1,12 @@
 //! Why an expression has no value.
 ghost use Rattle.std.specs.Prelude.{◌≡◌};
-ghost use Rattle.evaluator.specs.Faults.{located};
+ghost use Rattle.evaluator.specs.Faults.{number_of_fault};
 ghost use Rattle.evaluator.specs.declared.fault.ExpressionFault.TheVariants.{Arithmetic};
 
 use integer::ArithmeticFault;
 
-/// A fault of evaluation, and the node that it is told at.
-#[derive(Clone, Copy)]
+/// A fault of evaluation, and the node that it is told at. Each case has the node, so that one pattern tells both.
+#[derive(Clone, Copy, PartialEq, Eq, Debug)]
 pub enum ExpressionFault {
     /// Arithmetic has no result, at the operator.
     Arithmetic(ArithmeticFault, u16),
@@ -20,8 +20,23 @@ pub enum ExpressionFault {
     TooDeep(u16),
 }
 
+impl ExpressionFault {
+    /// The number by which a run tells the fault.
+    pub fn number(self) -> u8
+        ensures numbered { result ≡ number_of_fault self }
+    {
+        match self {
+            ExpressionFault::Arithmetic(fault, _) => fault.cause(),
+            ExpressionFault::NoPart(_) => 3,
+            ExpressionFault::NoRow(_) => 4,
+            ExpressionFault::Unsuited(_) => 5,
+            ExpressionFault::TooDeep(_) => 6,
+        }
+    }
+}
+
 /// An arithmetic fault at its operator.
-#[derive(Clone, Copy)]
+#[derive(Clone, Copy, PartialEq, Eq, Debug)]
 pub struct Located {
     pub fault: ArithmeticFault,
     pub node: u16,
@@ -32,15 +47,5 @@ impl From<Located> for ExpressionFault {
 
     fn from(located: Located) -> ExpressionFault {
         ExpressionFault::Arithmetic(located.fault, located.node)
-    }
-}
-
-/// A result of arithmetic, with the node of its operator where it is a fault.
-pub fn locate(res: Result<i32, ArithmeticFault>, node: u16) -> Result<i32, Located>
-    ensures located { result ≡ located res node }
-{
-    match res {
-        Ok(number) => Ok(number),
-        Err(fault) => Err(Located { fault, node }),
     }
 }

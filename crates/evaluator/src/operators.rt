@@ -1,8 +1,8 @@
 //! What operators give.
 ghost use Rattle.std.specs.Prelude.{◌≡◌};
-ghost use Rattle.evaluator.specs.Operators.{computed, compared, combined, unary_value, binary_value};
+ghost use Rattle.evaluator.specs.Operators.{computed, compared, combined, at_operator, unary_value, binary_value};
 
-use crate::fault::{ExpressionFault, locate};
+use crate::fault::{ExpressionFault, Located};
 use crate::value::Value;
 use integer::{
     ArithmeticFault, absolute, add, divide, modulo, multiply, negate, remainder, subtract,
@@ -47,6 +47,14 @@ fn combine(operator: LogicalOperator, x: bool, y: bool) -> bool
     }
 }
 
+/// The number that arithmetic gives, or its fault at the operator's node.
+fn at_operator(res: Result<i32, ArithmeticFault>, node: u16) -> Result<Value, ExpressionFault>
+    ensures given { result ≡ at_operator res node }
+{
+    let number = res.map_err(|fault| Located { fault, node })?;
+    Ok(Value::Integer(number))
+}
+
 /// The value that a unary operator at a node gives.
 pub fn apply_unary(
     operator: Option<UnaryOperator>,
@@ -57,12 +65,8 @@ pub fn apply_unary(
 {
     match (operator, operand) {
         (Some(UnaryOperator::Plus), Value::Integer(x)) => Ok(Value::Integer(x)),
-        (Some(UnaryOperator::Minus), Value::Integer(x)) => {
-            Ok(Value::Integer(locate(negate(x), node)?))
-        }
-        (Some(UnaryOperator::Abs), Value::Integer(x)) => {
-            Ok(Value::Integer(locate(absolute(x), node)?))
-        }
+        (Some(UnaryOperator::Minus), Value::Integer(x)) => at_operator(negate(x), node),
+        (Some(UnaryOperator::Abs), Value::Integer(x)) => at_operator(absolute(x), node),
         (Some(UnaryOperator::Not), Value::Boolean(x)) => Ok(Value::Boolean(!x)),
         _ => Err(ExpressionFault::Unsuited(node)),
     }
@@ -79,13 +83,13 @@ pub fn apply_binary(
 {
     match (operator, left, right) {
         (Some(BinaryOperator::Arithmetic(o)), Value::Integer(x), Value::Integer(y)) => {
-            Ok(Value::Integer(locate(compute(o, x, y), node)?))
+            at_operator(compute(o, x, y), node)
         }
         (Some(BinaryOperator::Relational(o)), Value::Integer(x), Value::Integer(y)) => {
             Ok(Value::Boolean(compare(o, x, y)))
         }
         (Some(BinaryOperator::Relational(o)), Value::Boolean(_), Value::Boolean(_)) => {
-            Ok(Value::Boolean(compare(o, left.number(), right.number())))
+            Ok(Value::Boolean(compare(o, left.into(), right.into())))
         }
         (Some(BinaryOperator::Logical(o)), Value::Boolean(x), Value::Boolean(y)) => {
             Ok(Value::Boolean(combine(o, x, y)))

@@ -5,40 +5,16 @@
 //! print.
 #![tactic(auto)]
 
-use files::read_line;
+use cases::report_cases;
 use procedure::{FormFault, Node, find_form_fault};
-use std::{fs, io};
+use std::io;
 
 fn main(rt: HostRuntime) -> io::Result<()> {
-    run(&rt)
+    report_cases(&rt, "form.txt", |shown, nodes| report(&rt, shown, nodes))
 }
 
-/// Reports on each case of the file.
-fn run(rt: &HostRuntime) -> io::Result<()> {
-    let text = fs::read_to_string(rt, "form.txt")?;
-    let mut nodes = Vec::new(rt.alloc());
-    let mut shown = String::new(rt.alloc());
-    for line in text.as_str().lines() {
-        if let Some(next) = line.strip_prefix("case ") {
-            report(rt, shown.as_str(), nodes.as_slice())?;
-            nodes.clear();
-            shown = String::from_str(rt.alloc(), next)?;
-            continue;
-        }
-        match read_line(line.as_bytes()) {
-            Ok(Some(node)) => nodes.push(node)?,
-            Ok(None) => {}
-            Err(fault) => println!(rt; "{shown}: {fault}")?,
-        }
-    }
-    report(rt, shown.as_str(), nodes.as_slice())
-}
-
-/// Prints the report on a case, where there is one.
+/// Prints the report on a case.
 fn report(rt: &HostRuntime, shown: &str, nodes: &[Node]) -> io::Result<()> {
-    if shown.is_empty() {
-        return Ok(());
-    }
     match find_form_fault(nodes) {
         None => {
             let count = nodes.len();

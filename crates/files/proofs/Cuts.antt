@@ -1,34 +1,44 @@
--- A text cut at its first separator, and its pieces. Assumes nothing.
-use Rattle.std.proofs.Common.{◌≡◌, ℕ, ◌+◌, ◌<◌, ◌≤◌, true, false, [], ◌∷◌, ◌++◌, length, get_or, take, drop, sym, refl, ◌∙◌, append_assoc, append-nil, arith}
-use Rattle.std.proofs.lemmas.List.{take_more, take_all, at_drop_more, at_drop_all}
-use Rattle.std.proofs.lemmas.Bool.{cond_both}
+-- A text cut at its first separator, its pieces, and those of them that are words. Assumes nothing.
+use Rattle.std.proofs.Common.{◌≡◌, ℕ, suc, ◌+◌, ◌<◌, ◌≤◌, Bool, true, false, not, nat_eq, cond, List, [], ◌∷◌, length, take, drop, Some, None, Option, refl, sym, ap, ◌∙◌, arith, Bor}
+use Rattle.std.specs.List.{position, position_or_len, before_first, after_first, FoldsTo}
+use Rattle.std.specs.Option.{IfSome}
+use Rattle.std.specs.Fn.{CalledAt}
+use Rattle.std.specs.Iterator.{YieldsFirstBy, YieldsFirstRef, YieldsThen, FindsItem, MakesProgress, item_count}
+use Rattle.std.proofs.lemmas.List.{take_all, drop_all}
+use denote.Param.Members.{Mut}
 use Rattle.files.specs.declared.scan.Separator.{Separator}
-use Rattle.files.specs.Scan.{Bytes, cuts, before, behind, pieces}
+use Rattle.files.specs.declared.scan.Pieces.{Pieces}
+use Rattle.files.specs.Scan.{Bytes, cuts, before, behind, pieces, filled, pieces_left}
 
--- none of the first i bytes is a separator
-abbrev pub Passed : Separator → Bytes → ℕ → Type 0
-Passed s bs i = (before s bs ≡ take i bs ++ before s (drop i bs)) × (behind s bs ≡ behind s (drop i bs))
+before_at : (s : Separator) (bs : Bytes) → before s bs ≡ before_first (cuts s) bs
+before_at s [] = refl
+before_at s (b ∷ bs) = step (before_at s bs) (cuts s b)
+  where
+    step : before s bs ≡ before_first (cuts s) bs → (c : Bool) → cond c [] (b ∷ before s bs) ≡ take (cond (not c) (1 + position_or_len (cuts s) bs) 0) (b ∷ bs)
+    step again true = refl
+    step again false =
+        let more : 1 + position_or_len (cuts s) bs ≡ suc (position_or_len (cuts s) bs) = omega arith in
+        rw more (ap (λ front. b ∷ front) again)
 
-module _ (s : Separator) (bs : Bytes) (i : ℕ) (passed : Passed s bs i) where
-  pub passed-more : i < length bs → cuts s (get_or bs i 0) ≡ false → Passed s bs (i + 1)
-  passed-more within other =
-      let front : before s (drop i bs) ≡ get_or bs i 0 ∷ before s (drop (i + 1) bs) = at_drop_more (before s) bs i 0 within ∙ rw other refl in
-      let back : behind s (drop i bs) ≡ behind s (drop (i + 1) bs) = at_drop_more (behind s) bs i 0 within ∙ rw other refl in
-      let more = take_more bs i 0 within in
-      (passed.0 ∙ rw (front, more, append_assoc) refl, passed.1 ∙ back)
+behind_at : (s : Separator) (bs : Bytes) → behind s bs ≡ after_first (cuts s) bs
+behind_at s [] = refl
+behind_at s (b ∷ bs) = step (behind_at s bs) (cuts s b)
+  where
+    step : behind s bs ≡ after_first (cuts s) bs → (c : Bool) → cond c bs (behind s bs) ≡ drop (cond (not c) (1 + position_or_len (cuts s) bs) 0 + 1) (b ∷ bs)
+    step again true = refl
+    step again false =
+        let more : 1 + position_or_len (cuts s) bs + 1 ≡ suc (position_or_len (cuts s) bs + 1) = omega arith in
+        rw more again
 
-  pub passed_to_cut : i < length bs → cuts s (get_or bs i 0) ≡ true → (take i bs ≡ before s bs) × (drop (i + 1) bs ≡ behind s bs)
-  passed_to_cut within cut =
-      let front : before s (drop i bs) ≡ [] = at_drop_more (before s) bs i 0 within ∙ rw cut refl in
-      let back : behind s (drop i bs) ≡ drop (i + 1) bs = at_drop_more (behind s) bs i 0 within ∙ rw cut refl in
-      (sym (passed.0 ∙ rw (front, append-nil) refl), sym (passed.1 ∙ back))
+pub cut_here : (s : Separator) (bs : Bytes) (i : ℕ) → Some i ≡ position (cuts s) bs → (take i bs ≡ before s bs) × (drop (i + 1) bs ≡ behind s bs)
+cut_here s bs i is =
+    let here : i ≡ position_or_len (cuts s) bs = grind arith in
+    (rw here (sym (before_at s bs)), rw here (sym (behind_at s bs)))
 
-  pub passed-all : length bs ≤ i → (bs ≡ before s bs) × ([] ≡ behind s bs)
-  passed-all end =
-      let front : before s (drop i bs) ≡ [] = at_drop_all (before s) bs i end in
-      let back : behind s (drop i bs) ≡ [] = at_drop_all (behind s) bs i end in
-      let all = take_all i bs end in
-      (sym (passed.0 ∙ rw (front, append-nil) all), sym (passed.1 ∙ back))
+pub cut_nowhere : (s : Separator) (bs : Bytes) → None ≡ position (cuts s) bs → (bs ≡ before s bs) × ([] ≡ behind s bs)
+cut_nowhere s bs is =
+    let all : length bs ≤ position_or_len (cuts s) bs = grind arith in
+    (sym (before_at s bs ∙ take_all _ bs all), sym (behind_at s bs ∙ drop_all _ bs (omega (arith, all))))
 
 -- the first piece, and the pieces of what stands behind it
 pub pieces_step : (s : Separator) (bs : Bytes) → 0 < length bs → pieces s bs ≡ before s bs ∷ pieces s (behind s bs)
@@ -36,17 +46,42 @@ pieces_step s [] some = absurd (omega arith)
 pieces_step s (b ∷ []) some = grind arith
 pieces_step s (b ∷ c ∷ bs) some = let again = pieces_step s (c ∷ bs) (omega arith) in grind arith
 
-pub pieces_none : (s : Separator) (bs : Bytes) → length bs ≡ 0 → pieces s bs ≡ []
-pieces_none s [] none = refl
-pieces_none s (b ∷ bs) none = absurd (omega arith)
+-- where the first of the items left is given, fewer are left
+pub goes_on : {S A B : Type 0} {can : S → Type 0} (view : A → B) (rest : S → List B) → ((t : S) → can t) → (s : S) (r : Option A) (t : S) → YieldsFirstBy view rest s r t → MakesProgress can (item_count rest) s r t
+goes_on view rest can s None t none = record { on = λ _. tt; keeps = tt; rests = λ _. tt }
+goes_on view rest can s (Some x) t some = record { on = λ _. (can t, tt, rw some (omega arith)); keeps = can t; rests = λ _. tt }
 
-behind-within : (s : Separator) (bs : Bytes) → length (behind s bs) ≤ length bs
-behind-within s [] = omega arith
-behind-within s (b ∷ bs) =
-    cond_both (cuts s b) bs (behind s bs) (λ rest. length rest ≤ length (b ∷ bs)) (λ _. omega arith) (λ _. omega (arith, behind-within s bs))
+pub filled_solid : (w : Bytes) (ws : List Bytes) → 0 < length w → filled (w ∷ ws) ≡ w ∷ filled ws
+filled_solid [] ws some = absurd (omega arith)
+filled_solid (b ∷ w) ws some = refl
 
--- what stands behind the first piece is shorter
-pub behind_shorter : (s : Separator) (bs : Bytes) → 0 < length bs → length (behind s bs) < length bs
-behind_shorter s [] some = absurd (omega arith)
-behind_shorter s (b ∷ bs) some =
-    cond_both (cuts s b) bs (behind s bs) (λ rest. length rest < length (b ∷ bs)) (λ _. omega arith) (λ _. omega (arith, behind-within s bs))
+filled_empty : (w : Bytes) (ws : List Bytes) → length w ≡ 0 → filled (w ∷ ws) ≡ filled ws
+filled_empty [] ws none = refl
+filled_empty (b ∷ w) ws none = absurd (omega arith)
+
+abbrev WordsFrom : Pieces → Option (Bor Bytes) → Pieces → Type 0
+WordsFrom = YieldsFirstRef (λ p. filled (pieces_left p))
+
+-- the first piece that is not empty is the first word
+module _ {F : Type 0} (g : Mut F (Bor (Bor Bytes) × Unit {0}) Bool) (f : F) (tells : (x : Bor Bytes) (b : Bool) (q : F) → CalledAt g f x b q → (q ≡ f) × (b ≡ not (nat_eq (length x.now) 0))) where
+  pub finds_word : (s u : Pieces) (r : Option (Bor Bytes)) → FindsItem (YieldsFirstRef pieces_left) g s f r u → WordsFrom s r u
+  finds_word s u r found = from found.0 s found.1 f refl found.2 found.3 found.4
+    where
+      last : (r : Option (Bor Bytes)) (s : Pieces) → YieldsFirstRef pieces_left s r u → IfSome r (λ x. (h : F) × CalledAt g f x true h) → WordsFrom s r u
+      last None s none _ = (rw none.0 refl, rw none.1 refl)
+      last (Some x) s some passes =
+          let told = (tells x true passes.0 passes.1).1 in
+          ap filled some ∙ filled_solid x.now (pieces_left u) (grind arith)
+
+      onward : (a b : Pieces) → filled (pieces_left a) ≡ filled (pieces_left b) → WordsFrom b r u → WordsFrom a r u
+      onward a b same rest = rw same rest
+
+      from : (xs : List (Bor Bytes)) (s : Pieces) (h p : F) → p ≡ f → YieldsThen (YieldsFirstRef pieces_left) s xs r u → FoldsTo (λ p x q. CalledAt g p x false q) p xs h → IfSome r (λ x. (k : F) × CalledAt g h x true k) → WordsFrom s r u
+      from [] s h p same runs calls passes =
+          let here : s ≡ runs.0 = runs.1 in
+          let unmoved : h ≡ f = sym calls ∙ same in
+          last r s (rw here runs.2) (rw (← unmoved) passes)
+      from (x ∷ xs) s h p same runs calls passes =
+          let told = tells x false calls.0 (rw (← same) calls.1) in
+          let skipped : filled (pieces_left s) ≡ filled (pieces_left runs.1.0) = ap filled runs.1.1 ∙ filled_empty x.now _ (grind arith) in
+          onward s runs.1.0 skipped (from xs runs.1.0 h calls.0 told.0 (runs.0, runs.1.2, runs.2) calls.2 passes)

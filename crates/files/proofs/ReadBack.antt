@@ -14,11 +14,12 @@ use Rattle.files.specs.declared.scan.Separator.{Separator}
 use Rattle.files.specs.declared.scan.Separator.TheVariants.{Blank, LineEnd, CommentSign}
 use Rattle.files.specs.declared.line.Field.{Field}
 use Rattle.files.specs.declared.line.Field.TheVariants.{Kind, Name, PartA, PartB, PartC, Next, Lo, Hi}
-use Rattle.files.specs.Scan.{Bytes, cuts, before, pieces, filled, lines_of, words_of}
+use Rattle.files.specs.Scan.{Bytes, cuts, before, pieces, lines_of, words_of}
 use Rattle.files.specs.Number.{all_digits, digits_value, natural_written, number_written}
 use Rattle.files.specs.Line.{described, Within, natural, integer, node_of, line_read}
 use Rattle.files.specs.File.{lines_read}
 use Rattle.files.specs.Written.{Fitting, spaced, node_words, nodes_text, ReadBack}
+use Rattle.files.proofs.Cuts.{filled_solid}
 use Rattle.files.proofs.Decimal.{written}
 
 -- no byte is such a separator
@@ -47,10 +48,6 @@ pieces_last s (b ∷ c ∷ w) u some = rw (u.0, pieces_last s (c ∷ w) u.1 (ome
 record Solid (w : Bytes) : Type 0 where
   some : 0 < length w
   uncut : (s : Separator) → Uncut s w
-
-filled_solid : (w : Bytes) (ws : List Bytes) → 0 < length w → filled (w ∷ ws) ≡ w ∷ filled ws
-filled_solid [] ws some = absurd (omega arith)
-filled_solid (b ∷ w) ws some = refl
 
 words_spaced : (ws : List Bytes) → AllByRecursion Solid ws → words_of (spaced ws) ≡ ws
 words_spaced [] solid = refl

@@ -2,6 +2,7 @@
 use Rattle.std.specs.Prelude.{ℕ, Bool, cond, ◌||◌, List, [], ◌∷◌, Some, None, Option, ◌==◌}
 use Rattle.files.specs.declared.scan.Separator.{Separator}
 use Rattle.files.specs.declared.scan.Separator.TheVariants.{Blank, LineEnd, CommentSign}
+use Rattle.files.specs.declared.scan.Pieces.{Pieces}
 use Rattle.files.specs.declared.scan.Lines.{Lines}
 use Rattle.files.specs.declared.scan.Words.{Words}
 
@@ -51,11 +52,14 @@ abbrev pub words_of_line : Bytes → List Bytes
 words_of_line line = words_of (before CommentSign line)
 
 -- what a scanner has still to give
+abbrev pub pieces_left : Pieces → List Bytes
+pieces_left p = pieces p.separator p.rest.now
+
 abbrev pub lines_left : Lines → List Bytes
-lines_left l = lines_of l.rest.now
+lines_left l = pieces_left l.pieces
 
 abbrev pub words_left : Words → List Bytes
-words_left w = words_of w.rest.now
+words_left w = filled (pieces_left w.pieces)
 
 abbrev pub first : {X : Type 0} → List X → Option X
 first [] = None

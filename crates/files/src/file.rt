@@ -37,14 +37,11 @@ impl<T: Drop> From<AllocFailed<T>> for FileFault {
 fn add_line(nodes: &mut Vec<Node>, number: usize, line: &[u8]) -> Result<(), FileFault>
     ensures added { Adds result (at_line number (line_read line.now)) nodes.old.items nodes.new.items }
 {
-    match read_line(line) {
-        Ok(Some(node)) => {
-            nodes.push(node)?;
-            Ok(())
-        }
-        Ok(None) => Ok(()),
-        Err(fault) => Err(FileFault::Line(FaultyLine { number, fault })),
+    let read = read_line(line).map_err(|fault| FileFault::Line(FaultyLine { number, fault }))?;
+    if let Some(node) = read {
+        nodes.push(node)?;
     }
+    Ok(())
 }
 
 /// The nodes that the lines of the text write, in order, or the first line that is no node.
@@ -52,11 +49,8 @@ pub fn read_procedure(heap: Global, text: &[u8]) -> Result<Vec<Node>, FileFault>
     ensures as_written { Reads result (procedure_read text.now) }
 {
     let mut nodes = Vec::new(heap);
-    let mut lines = Lines::new(text);
-    let mut number = 0;
-    while let Some(line) = lines.next_line() {
-        number += 1;
-        add_line(&mut nodes, number, line)?;
+    for (i, line) in Lines::new(text).enumerate() {
+        add_line(&mut nodes, i + 1, line)?;
     }
     Ok(nodes)
 }

@@ -1,8 +1,11 @@
 //! The node that a line writes.
-ghost use Rattle.std.specs.Prelude.{◌≡◌, ◌∷◌, IfOk, Some};
-ghost use Rattle.files.specs.Scan.{first, later, words_left};
-ghost use Rattle.files.specs.declared.line.Field.TheVariants.{Kind};
-ghost use Rattle.files.specs.Line.{described, Within, Unsigned, field_number, integer, natural, nothing, node_of, line_read};
+ghost use Rattle.std.specs.Prelude.{◌≡◌, ◌∷◌, ℤ, Option, Result, Some, FitsSigned, unsigned_abs};
+ghost use Rattle.std.specs.Int.{FitsUnsignedBits, w32};
+ghost use Rattle.files.specs.declared.line.Field.{Field};
+ghost use Rattle.files.specs.declared.line.LineFault.{LineFault};
+ghost use Rattle.files.specs.Scan.{Bytes, first, later, words_left};
+ghost use Rattle.files.specs.Line.{described, Within, integer, natural, node_of, line_read};
+ghost use Rattle.files.specs.Holding.{Holding, holding, holding_itself};
 
 use crate::number::{NumberFault, read_number};
 use crate::scan::Words;
@@ -21,58 +24,44 @@ pub enum Field {
     Hi,
 }
 
+/// Which of the eight numbers a field is, from 1, its name, and the least and the greatest number that it can be.
+#[derive(Clone, Copy)]
+pub(crate) struct Description {
+    pub(crate) place: u8,
+    pub(crate) word: &'static str,
+    pub(crate) low: i32,
+    pub(crate) high: i32,
+}
+
+impl Description {
+    fn new(place: u8, word: &'static str, low: i32, high: i32) -> Description
+        ensures made { result ≡ record { place = place; word = word.entry; low = low; high = high } }
+    {
+        Description {
+            place,
+            word,
+            low,
+            high,
+        }
+    }
+}
+
 impl Field {
-    /// Which of the eight numbers it is, from 1.
-    pub(crate) fn place(self) -> u8
-        ensures placed { result ≡ (described self).place }
+    pub(crate) fn described(self) -> Description
+        ensures placed { result.place ≡ (described self).place }
+        ensures named { result.word.now ≡ (described self).word }
+        ensures least { result.low ≡ (described self).low }
+        ensures greatest { result.high ≡ (described self).high }
     {
         match self {
-            Field::Kind => 1,
-            Field::Name => 2,
-            Field::PartA => 3,
-            Field::PartB => 4,
-            Field::PartC => 5,
-            Field::Next => 6,
-            Field::Lo => 7,
-            Field::Hi => 8,
-        }
-    }
-
-    /// Its name.
-    pub(crate) fn word(self) -> &'static str
-        ensures named { result.now ≡ (described self).word }
-    {
-        match self {
-            Field::Kind => "kind",
-            Field::Name => "name",
-            Field::PartA => "a",
-            Field::PartB => "b",
-            Field::PartC => "c",
-            Field::Next => "next",
-            Field::Lo => "lo",
-            Field::Hi => "hi",
-        }
-    }
-
-    /// The least number that it can be.
-    pub(crate) fn low(self) -> i32
-        ensures least { result ≡ (described self).low }
-    {
-        match self {
-            Field::Kind | Field::Name | Field::PartA | Field::PartB | Field::PartC | Field::Next =>
-                0,
-            Field::Lo | Field::Hi => i32::MIN,
-        }
-    }
-
-    /// The greatest number that it can be.
-    pub(crate) fn high(self) -> i32
-        ensures greatest { result ≡ (described self).high }
-    {
-        match self {
-            Field::Kind => 255,
-            Field::Name | Field::PartA | Field::PartB | Field::PartC | Field::Next => 65535,
-            Field::Lo | Field::Hi => i32::MAX,
+            Field::Kind => Description::new(1, "kind", 0, 255),
+            Field::Name => Description::new(2, "name", 0, 65535),
+            Field::PartA => Description::new(3, "a", 0, 65535),
+            Field::PartB => Description::new(4, "b", 0, 65535),
+            Field::PartC => Description::new(5, "c", 0, 65535),
+            Field::Next => Description::new(6, "next", 0, 65535),
+            Field::Lo => Description::new(7, "lo", i32::MIN, i32::MAX),
+            Field::Hi => Description::new(8, "hi", i32::MIN, i32::MAX),
         }
     }
 }
@@ -90,54 +79,63 @@ pub enum LineFault {
     Extra,
 }
 
-/// The number that a word writes for a field.
-fn read_field(word: &[u8], field: Field) -> Result<i32, LineFault>
-    ensures as_written { result ≡ field_number field word.now }
-    ensures in_range { IfOk result (Within field) }
-{
-    match read_number(word, field.low(), field.high()) {
-        Ok(value) => Ok(value),
-        Err(NumberFault::NoNumber) => Err(LineFault::NoNumber(field)),
-        Err(NumberFault::OutOfRange) => Err(LineFault::OutOfRange(field)),
-    }
+/// A type of a node's numbers.
+trait Number: TryFrom<i32, Error: Drop> {
+    /// The integers that it holds.
+    ghost holds: { ℤ → Type 0 };
+
+    /// What stands in the place of a field, of which it holds each number.
+    ghost reads: { Field → Option Bytes → Result Self LineFault };
+
+    ghost exact: { (f : Field) (place : Option Bytes) → Holding Self.TryFrom.try_from_gives holds (integer f place) (reads f place) };
 }
 
-fn read_kind(word: &[u8]) -> Result<u8, LineFault>
-    ensures as_written { result ≡ natural Kind (Some word.now) }
+impl Number for u8 {
+    ghost holds = { FitsUnsignedBits 8 };
+
+    ghost reads = { natural };
+
+    ghost exact = { λ f place. holding _ (FitsUnsignedBits 8) unsigned_abs (integer f place) };
+}
+
+impl Number for u16 {
+    ghost holds = { FitsUnsignedBits 16 };
+
+    ghost reads = { natural };
+
+    ghost exact = { λ f place. holding _ (FitsUnsignedBits 16) unsigned_abs (integer f place) };
+}
+
+impl Number for i32 {
+    ghost holds = { FitsSigned w32 };
+
+    ghost reads = { integer };
+
+    ghost exact = { λ f place. holding_itself _ (FitsSigned w32) (integer f place) };
+}
+
+/// The number that a word writes for a field, of which the type holds each.
+fn read_field<N: Number>(word: &[u8], field: Field) -> Result<N, LineFault>
+    requires held { (z : ℤ) → Within field z → N.holds z }
+    ensures as_written { result ≡ N.reads field (Some word.now) }
 {
-    let value = read_field(word, Field::Kind)?;
-    Ok(value as u8)
+    let Description { low, high, .. } = field.described();
+    let value = read_number(word, low, high).map_err(|fault| match fault {
+        NumberFault::NoNumber => LineFault::NoNumber(field),
+        NumberFault::OutOfRange => LineFault::OutOfRange(field),
+    })?;
+    N::try_from(value).map_err(|_| LineFault::OutOfRange(field))
 }
 
 /// The number that the next word writes for a field.
-fn next_integer(words: &mut Words, field: Field) -> Result<i32, LineFault>
-    ensures as_written { result ≡ integer field (first (words_left words.old)) }
+fn next_field<N: Number>(words: &mut Words, field: Field) -> Result<N, LineFault>
+    requires held { (z : ℤ) → Within field z → N.holds z }
+    ensures as_written { result ≡ N.reads field (first (words_left words.old)) }
     ensures leaves_later { words_left words.new ≡ later (words_left words.old) }
-    ensures in_range { IfOk result (Within field) }
 {
-    match words.next_word() {
+    match words.next() {
         Some(word) => read_field(word, field),
         None => Err(LineFault::Missing(field)),
-    }
-}
-
-/// The same for a field that is never below 0.
-fn next_natural(words: &mut Words, field: Field) -> Result<u16, LineFault>
-    requires unsigned { Unsigned field }
-    ensures as_written { result ≡ natural field (first (words_left words.old)) }
-    ensures leaves_later { words_left words.new ≡ later (words_left words.old) }
-{
-    let value = next_integer(words, field)?;
-    Ok(value as u16)
-}
-
-/// That no word is left.
-fn end_line(words: &mut Words) -> Result<(), LineFault>
-    ensures as_written { result ≡ nothing (first (words_left words.old)) }
-{
-    match words.next_word() {
-        Some(_) => Err(LineFault::Extra),
-        None => Ok(()),
     }
 }
 
@@ -145,25 +143,20 @@ fn end_line(words: &mut Words) -> Result<(), LineFault>
 fn read_node(kind: &[u8], words: &mut Words) -> Result<Node, LineFault>
     ensures as_written { result ≡ node_of (kind.now ∷ words_left words.old) }
 {
-    let kind = read_kind(kind)?;
-    let name = next_natural(words, Field::Name)?;
-    let a = next_natural(words, Field::PartA)?;
-    let b = next_natural(words, Field::PartB)?;
-    let c = next_natural(words, Field::PartC)?;
-    let next = next_natural(words, Field::Next)?;
-    let lo = next_integer(words, Field::Lo)?;
-    let hi = next_integer(words, Field::Hi)?;
-    end_line(words)?;
-    Ok(Node {
-        kind,
-        name,
-        a,
-        b,
-        c,
-        next,
-        lo,
-        hi,
-    })
+    let node = Node {
+        kind: read_field(kind, Field::Kind)?,
+        name: next_field(words, Field::Name)?,
+        a: next_field(words, Field::PartA)?,
+        b: next_field(words, Field::PartB)?,
+        c: next_field(words, Field::PartC)?,
+        next: next_field(words, Field::Next)?,
+        lo: next_field(words, Field::Lo)?,
+        hi: next_field(words, Field::Hi)?,
+    };
+    match words.next() {
+        Some(_) => Err(LineFault::Extra),
+        None => Ok(node),
+    }
 }
 
 /// The node that the line writes, or `None` where it is blank or holds a comment alone.
@@ -171,10 +164,10 @@ pub fn read_line(line: &[u8]) -> Result<Option<Node>, LineFault>
     ensures as_written { result ≡ line_read line.now }
 {
     let mut words = Words::new(line);
-    match words.next_word() {
-        Some(kind) => Ok(Some(read_node(kind, &mut words)?)),
-        None => Ok(None),
-    }
+    words
+        .next()
+        .map(|kind| read_node(kind, &mut words))
+        .transpose()
 }
 
 #[cfg(test)]

@@ -3,7 +3,7 @@ ghost use Rattle.std.specs.Prelude.{Some};
 ghost use Rattle.files.specs.Message.{field_text, line_fault_text, faulty_line_text, file_fault_text};
 
 use crate::file::{FaultyLine, FileFault};
-use crate::line::{Field, LineFault};
+use crate::line::{Description, Field, LineFault};
 use std::fmt;
 
 /// As `number 3 (a)`.
@@ -11,8 +11,7 @@ impl fmt::Display for Field {
     ghost output = { λ x. Some (field_text x) };
 
     fn fmt<W: fmt::Write>(&self, f: &mut fmt::Formatter<W>) -> fmt::Result {
-        let place = self.place();
-        let word = self.word();
+        let Description { place, word, .. } = self.described();
         write!(f, "number {place} ({word})")
     }
 }
@@ -33,8 +32,7 @@ impl fmt::Display for LineFault {
                 "{field} is not a decimal number: write digits 0 to 9, with - in front if it is below 0"
             ),
             LineFault::OutOfRange(field) => {
-                let low = field.low();
-                let high = field.high();
+                let Description { low, high, .. } = field.described();
                 write!(
                     f,
                     "{field} is out of range: write a number from {low} to {high}"

@@ -1,3 +1,3 @@
 pub mod Counting
 pub mod Resting
-mod Parameters
+mod ParameterLists

@@ -1,5 +1,5 @@
 -- Beginning a run: a row for each parameter, with the values in their order. Assumes nothing.
-use Rattle.std.specs.Prelude.{ℕ, zero, suc, Bool, true, false, cond, not, List, [], ◌∷◌, ◌++◌, length, drop, ℤ, is_some, Ok, Err, ◌==◌, nat_le}
+use Rattle.std.specs.Prelude.{ℕ, zero, suc, Bool, true, false, cond, not, List, [], ◌∷◌, ◌++◌, length, drop, ℤ, is_some, None, Ok, Err, ◌==◌, nat_le}
 use Rattle.std.specs.Option.{unwrap_or}
 use Rattle.procedure.specs.declared.kind.DeclarationKind.TheVariants.{Parameter, Variable, Constant}
 use Rattle.procedure.specs.declared.refusal.Reason.TheVariants.{Bulky, Unmarked, Miscounted, Unfit, Short}
@@ -13,6 +13,7 @@ use Rattle.procedure.specs.Table.{Table, node, standing}
 use Rattle.evaluator.specs.declared.rows.Row.{Row}
 use Rattle.evaluator.specs.Values.{value_of_type}
 use Rattle.machine.specs.declared.outcome.Outcome.TheVariants.{Paused}
+use Rattle.machine.specs.declared.parameters.Parameters.{Parameters}
 use Rattle.machine.specs.declared.progress.Progress.{Progress}
 use Rattle.machine.specs.declared.run.Run.{Run}
 use Rattle.machine.specs.Decide.{Rows, mark_of}
@@ -39,6 +40,10 @@ behind_parameters (suc f) t n = cond (is_parameter (standing t n)) (behind_param
 -- the parameters of a procedure stand first in its list
 abbrev pub parameters : Table → List ℕ
 parameters t = parameters_from (length t) t (node t 0).a
+
+-- those that an iterator has left
+abbrev pub parameters_left : Parameters → List ℕ
+parameters_left p = parameters_from p.left p.nodes.now p.next
 
 -- the node due first: the next declaration, else the first statement
 abbrev pub due_behind : ℕ → Table → ℕ
@@ -71,7 +76,7 @@ parameter_rows t (n ∷ ns) (v ∷ vs) = parameter_row t n v ∷ parameter_rows 
 
 -- nothing was counted yet
 abbrev pub fresh : ℕ → Progress
-fresh at = record { outcome = Paused; cause = 0; node = 0; at = at; steps = 0; reads = 0; writes = 0 }
+fresh at = record { outcome = Paused; cause = None; node = 0; at = at; steps = 0; reads = 0; writes = 0 }
 
 -- a run that has begun, with every place of its rows
 pub record Begun : Type 0 where
@@ -96,5 +101,9 @@ begun t values places =
 
 -- what a begin answers, with the rows after it
 abbrev pub with_places : Answer Run → List Row → Answer Begun
-with_places (Ok run) places = Ok (record { progress = run.progress; rows = record { places = places; held = run.rows }; frames_held = run.frames })
+with_places (Ok run) places = Ok (record {
+  progress = run.shown.progress;
+  rows = record { places = places; held = run.shown.rows };
+  frames_held = run.shown.frames;
+})
 with_places (Err e) places = Err e

@@ -14,9 +14,9 @@ use Rattle.machine.specs.State.{State, stepped}
 -- a run with its tables and its port
 abbrev pub state_of : Run → List Row → List Frame → Meaning → State
 state_of run rows frames port = record {
-  progress = run.progress;
-  rows = record { places = rows; held = run.rows };
-  frames = record { places = frames; held = run.frames };
+  progress = run.shown.progress;
+  rows = record { places = rows; held = run.shown.rows };
+  frames = record { places = frames; held = run.shown.frames };
   port = port;
 }
 

@@ -1,6 +1,6 @@
 -- How a run stands, and what each fault of a step makes of it. Assumes nothing.
 use Rattle.std.specs.Prelude.{ℕ, Bool, true, false, List, codes}
-use Rattle.integer.specs.Fault.{cause_of}
+use Rattle.evaluator.specs.Faults.{number_of_fault}
 use Rattle.evaluator.specs.declared.fault.ExpressionFault.{ExpressionFault}
 use Rattle.evaluator.specs.declared.fault.ExpressionFault.TheVariants.{Arithmetic, NoPart, NoRow, Unsuited, TooDeep}
 use Rattle.machine.specs.declared.fault.Ending.{Ending}
@@ -29,25 +29,37 @@ is_paused UseError = false
 is_paused Stuck = false
 is_paused StorageError = false
 
-abbrev pub ending : Outcome → ℕ → ℕ → Ending
+-- the number by which a fault is told
+abbrev pub number_of : StepFault → ℕ
+number_of (Expression e) = number_of_fault e
+number_of NotBoolean = 7
+number_of NothingWaits = 8
+number_of NoPlace = 9
+number_of NoStep = 10
+number_of NoTarget = 11
+number_of WrongType = 12
+number_of RowsFull = 13
+number_of FramesFull = 14
+
+abbrev pub ending : Outcome → StepFault → ℕ → Ending
 ending o c n = record { outcome = o; cause = c; node = n }
 
 -- a fault of an expression, with its own node
 abbrev pub expression_ending : ExpressionFault → Ending
-expression_ending (Arithmetic e n) = ending NumericError (cause_of e) n
-expression_ending (NoPart n) = ending Stuck 3 n
-expression_ending (NoRow n) = ending Stuck 4 n
-expression_ending (Unsuited n) = ending Stuck 5 n
-expression_ending (TooDeep n) = ending Stuck 6 n
+expression_ending (Arithmetic e n) = ending NumericError (Expression (Arithmetic e n)) n
+expression_ending (NoPart n) = ending Stuck (Expression (NoPart n)) n
+expression_ending (NoRow n) = ending Stuck (Expression (NoRow n)) n
+expression_ending (Unsuited n) = ending Stuck (Expression (Unsuited n)) n
+expression_ending (TooDeep n) = ending Stuck (Expression (TooDeep n)) n
 
 -- The outcome, cause and node of each fault of a step; a fault of the statement itself is told at the node due.
 abbrev pub ending_of : StepFault → ℕ → Ending
 ending_of (Expression e) at = expression_ending e
-ending_of NotBoolean at = ending ConstraintError 7 at
-ending_of NothingWaits at = ending EndError 8 at
-ending_of NoPlace at = ending UseError 9 at
-ending_of NoStep at = ending Stuck 10 at
-ending_of NoTarget at = ending Stuck 11 at
-ending_of WrongType at = ending Stuck 12 at
-ending_of RowsFull at = ending StorageError 13 at
-ending_of FramesFull at = ending StorageError 14 at
+ending_of NotBoolean at = ending ConstraintError NotBoolean at
+ending_of NothingWaits at = ending EndError NothingWaits at
+ending_of NoPlace at = ending UseError NoPlace at
+ending_of NoStep at = ending Stuck NoStep at
+ending_of NoTarget at = ending Stuck NoTarget at
+ending_of WrongType at = ending Stuck WrongType at
+ending_of RowsFull at = ending StorageError RowsFull at
+ending_of FramesFull at = ending StorageError FramesFull at

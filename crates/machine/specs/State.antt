@@ -3,7 +3,7 @@ use Rattle.std.specs.Prelude.{ℕ, ◌+◌, cond, length, ℤ, is_some, Some, No
 use Rattle.stack.specs.Acts.{stacked, taken_off, replaced, cut}
 use Rattle.stack.specs.Tables.{Table as StackTable}
 use Rattle.port.specs.Meaning.{Meaning, get_answer, after_get, put_answer, after_put}
-use Rattle.port.specs.declared.port.Full.{Full}
+use Rattle.stack.specs.declared.Full.{Full}
 use Rattle.procedure.specs.Table.{Table}
 use Rattle.evaluator.specs.declared.rows.Placed.{Placed}
 use Rattle.evaluator.specs.Values.{value_of_type}
@@ -23,9 +23,6 @@ pub record State : Type 0 where
   pub rows : Rows
   pub frames : Frames
   pub port : Meaning
-
-abbrev pub state : Progress → Rows → Frames → Meaning → State
-state progress rows frames port = record { progress = progress; rows = rows; frames = frames; port = port }
 
 -- on top, where a place is left
 abbrev pub pushed : {T : Type 0} → T → StackTable T → StackTable T
@@ -63,7 +60,7 @@ done p = record {
 abbrev pub ended : Ending → Progress → Progress
 ended e p = record {
   outcome = e.outcome;
-  cause = e.cause;
+  cause = Some e.cause;
   node = e.node;
   at = p.at;
   steps = p.steps + 1;
@@ -123,6 +120,15 @@ received (Some z) p to s =
 abbrev pub sent : Result (Unit {0}) Full → ℤ → ℕ → State → State
 sent (Ok u) z to s = going_to to (sending z s)
 sent (Err e) z to s = failing NoPlace s
+
+-- how a step concludes: the run goes on at a node, is done, or has failed
+abbrev pub concluding : Result (Option ℕ) StepFault → Progress → Progress
+concluding (Ok (Some to)) p = gone_to to p
+concluding (Ok None) p = done p
+concluding (Err e) p = ended (ending_of e p.at) p
+
+abbrev pub concluded : Result (Option ℕ) StepFault → State → State
+concluded r s = record { progress = concluding r s.progress; rows = s.rows; frames = s.frames; port = s.port }
 
 -- what an act makes of the state
 abbrev pub acted : Act → State → State

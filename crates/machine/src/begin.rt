@@ -1,57 +1,27 @@
 //! Beginning a run.
-ghost use Rattle.std.specs.Prelude.{◌≡◌, ◌≤◌, ◌++◌, length, drop, Ok, OnErr};
-ghost use Rattle.procedure.specs.Sequence.{and_then};
-ghost use Rattle.procedure.specs.Table.{node, standing};
-ghost use Rattle.machine.specs.Begin.{is_parameter, behind_parameters, parameters, due_behind, marked, fitting, parameter_row, parameter_rows, begun, with_places};
+ghost use Rattle.std.specs.Prelude.{◌≡◌, ◌≤◌, ◌++◌, length, drop, OnErr};
+ghost use Rattle.procedure.specs.Table.{node};
+ghost use Rattle.machine.specs.Begin.{behind_parameters, parameters, first_due, marked, fitting, parameter_row, parameter_rows, begun, with_places};
 
 use crate::mark::mark_of;
 use crate::outcome::Outcome;
+use crate::parameters::Parameters;
 use crate::progress::Progress;
-use crate::run::Run;
+use crate::run::{Run, Shown};
 use evaluator::{Row, Value};
-use procedure::kind::DeclarationKind;
-use procedure::table::{Standing, node_at, standing_at};
+use procedure::table::node_at;
 use procedure::types::Type;
 use procedure::{Node, Reason, Refusal, demand, test_form};
 use stack::Stack;
 
-/// How many parameters a procedure has, and the node behind them.
-#[derive(Clone, Copy)]
-struct Parameters {
-    count: usize,
-    behind: u16,
-}
-
-/// Whether a parameter stands at node `n`.
-fn is_parameter(nodes: &[Node], n: u16) -> bool
-    ensures told { result ≡ is_parameter (standing nodes.now n) }
+/// Tests the mark of each parameter.
+fn test_marks(nodes: &[Node]) -> Result<(), Refusal>
+    ensures marked { result ≡ marked nodes.now (parameters nodes.now) }
 {
-    matches!(
-        standing_at(nodes, n),
-        Standing::Declaration(DeclarationKind::Parameter)
-    )
-}
-
-/// Goes along the parameters, and tests the mark of each.
-fn read_parameters(nodes: &[Node]) -> Result<Parameters, Refusal>
-    ensures read { result ≡ and_then (marked nodes.now (parameters nodes.now)) (λ _. Ok (record {
-      count = length (parameters nodes.now);
-      behind = behind_parameters (length nodes.now) nodes.now (node nodes.now 0).a;
-    })) }
-{
-    let mut n = node_at(nodes, 0).a;
-    for count in 0..nodes.len() {
-        if !is_parameter(nodes, n) {
-            return Ok(Parameters { count, behind: n });
-        }
-        let node = node_at(nodes, n);
-        demand(mark_of(node.lo).is_some(), Reason::Unmarked, n)?;
-        n = node.next;
+    for n in Parameters::of(nodes) {
+        demand(mark_of(node_at(nodes, n).lo).is_some(), Reason::Unmarked, n)?;
     }
-    Ok(Parameters {
-        count: nodes.len(),
-        behind: n,
-    })
+    Ok(())
 }
 
 /// The row of the parameter at node `n`.
@@ -69,15 +39,12 @@ fn parameter_row(nodes: &[Node], n: u16, value: i32) -> Row
 
 /// Tests that each value is one of its parameter's type.
 fn test_values(nodes: &[Node], values: &[i32]) -> Result<(), Refusal>
-    requires counted { length values.now ≡ length (parameters nodes.now) }
     ensures fitting { result ≡ fitting nodes.now (parameters nodes.now) values.now }
 {
-    let mut n = node_at(nodes, 0).a;
-    for value in values {
+    for (n, value) in Parameters::of(nodes).zip(values) {
         let row = parameter_row(nodes, n, *value);
         let is_fit = Value::of_number(row.value, row.of_type).is_some();
         demand(is_fit, Reason::Unfit, n)?;
-        n = node_at(nodes, n).next;
     }
     Ok(())
 }
@@ -89,18 +56,28 @@ fn put_rows(nodes: &[Node], values: &[i32], rows: &mut [Row])
     ensures put { rows.new ≡ parameter_rows nodes.now (parameters nodes.now) values.now
         ++ drop (length values.now) rows.old }
 {
-    let mut n = node_at(nodes, 0).a;
     let mut stack = Stack::of(rows, 0);
-    for value in values {
+    for (n, value) in Parameters::of(nodes).zip(values) {
         let _ = stack.put(parameter_row(nodes, n, *value));
-        n = node_at(nodes, n).next;
     }
 }
 
-/// The node due first: the next declaration behind the parameters, else the first statement.
-fn first_due(nodes: &[Node], behind: u16) -> u16
-    ensures due { result ≡ due_behind behind nodes.now }
+/// The node behind the parameters.
+fn behind_parameters(nodes: &[Node]) -> u16
+    ensures behind { result ≡ behind_parameters (length nodes.now) nodes.now (node nodes.now 0).a }
 {
+    let mut behind = node_at(nodes, 0).a;
+    for n in Parameters::of(nodes) {
+        behind = node_at(nodes, n).next;
+    }
+    behind
+}
+
+/// The node due first: the next declaration behind the parameters, else the first statement.
+fn first_due(nodes: &[Node]) -> u16
+    ensures due { result ≡ first_due nodes.now }
+{
+    let behind = behind_parameters(nodes);
     if behind == 0 {
         node_at(nodes, 0).b
     } else {
@@ -114,23 +91,25 @@ pub fn begin(nodes: &[Node], values: &[i32], rows: &mut [Row]) -> Result<Run, Re
     ensures refused_leaves_all { OnErr result (rows.new ≡ rows.old) }
 {
     test_form(nodes)?;
-    let Parameters { count, behind } = read_parameters(nodes)?;
+    test_marks(nodes)?;
+    let count = Parameters::of(nodes).count();
     demand(values.len() == count, Reason::Miscounted, 0)?;
     demand(count <= rows.len(), Reason::Short, 0)?;
     test_values(nodes, values)?;
     put_rows(nodes, values, rows);
     let progress = Progress {
         outcome: Outcome::Paused,
-        cause: 0,
+        cause: None,
         node: 0,
-        at: first_due(nodes, behind),
+        at: first_due(nodes),
         steps: 0,
         reads: 0,
         writes: 0,
     };
-    Ok(Run {
+    let shown = Shown {
         progress,
         rows: values.len(),
         frames: 0,
-    })
+    };
+    Ok(Run { shown })
 }

@@ -1,147 +1,31 @@
 //! Which act is due, or which fault.
 ghost use Rattle.std.specs.Prelude.{◌≡◌};
+ghost use Rattle.stack.specs.Acts.{top};
 ghost use Rattle.stack.specs.Stacks.{table};
-ghost use Rattle.machine.specs.Decide.{enters, behind_last, behind, declares, declaration, target, assignment, gets, puts, condition, branch, branches, loops, blocks, statement as stated, decided, value_at};
+ghost use Rattle.machine.specs.Decide.{frame_at, enters, behind_last, behind, declares, target, assignment, gets, puts, condition, branches, loops, blocks, statement as stated, decided, value_at};
 
 use crate::act::Act;
+use crate::due::Due;
 use crate::fault::StepFault;
 use crate::frame::Frame;
-use crate::list_end::end_list;
 use crate::mark::mark_of;
 use evaluator::{Placed, Row, Value, evaluate_root, find_topmost};
 use procedure::kind::{DeclarationKind, StatementKind};
 use procedure::table::{Standing, node_at, standing_at};
 use procedure::types::Type;
 use procedure::{Kind, Node};
-use stack::Stack;
-
-/// The value of the expression of the node due.
-fn value_at(nodes: &[Node], rows: &Stack<Row>, at: u16) -> Result<Value, StepFault>
-    ensures evaluated { result ≡ value_at nodes.now (table rows.now) at }
-{
-    Ok(evaluate_root(nodes, rows.held_items(), at, node_at(nodes, at).a)?)
-}
-
-/// Enters a statement, where a frame finds a place.
-fn enter(frames: &Stack<Frame>, frame: Frame, to: u16) -> Result<Act, StepFault>
-    ensures entered { result ≡ enters (table frames.now) frame to }
-{
-    if frames.room() > 0 {
-        Ok(Act::Enter(frame, to))
-    } else {
-        Err(StepFault::FramesFull)
-    }
-}
 
 /// Where a run goes behind the last declaration of a list.
 fn behind_last(nodes: &[Node], outer: Option<Frame>) -> Result<u16, StepFault>
     ensures told { result ≡ behind_last nodes.now outer }
 {
-    let (node, is_taken) = match outer {
-        None => {
-            let node = node_at(nodes, 0);
-            (
-                node,
-                matches!(Kind::of_number(node.kind), Some(Kind::Procedure)),
-            )
+    let node = node_at(nodes, outer.map_or(0, |frame| frame.node));
+    match (outer, node.listed_kind()) {
+        (None, Some(Kind::Procedure)) | (Some(_), Some(Kind::Statement(StatementKind::Block))) => {
+            Ok(node.b)
         }
-        Some(frame) => {
-            let node = node_at(nodes, frame.node);
-            (
-                node,
-                matches!(
-                    Kind::of_number(node.kind),
-                    Some(Kind::Statement(StatementKind::Block))
-                ),
-            )
-        }
-    };
-    if is_taken {
-        Ok(node.b)
-    } else {
-        Err(StepFault::NoStep)
+        _ => Err(StepFault::NoStep),
     }
-}
-
-/// Where a run goes behind a declaration.
-fn behind(nodes: &[Node], outer: Option<Frame>, next: u16) -> Result<u16, StepFault>
-    ensures told { result ≡ behind nodes.now outer next }
-{
-    if next == 0 {
-        behind_last(nodes, outer)
-    } else {
-        Ok(next)
-    }
-}
-
-/// The step of a variable or a constant.
-fn declare(
-    constant: bool,
-    nodes: &[Node],
-    rows: &Stack<Row>,
-    frames: &Stack<Frame>,
-    at: u16,
-) -> Result<Act, StepFault>
-    ensures decided { result ≡ declares constant nodes.now (table rows.now) (table frames.now) at }
-{
-    let node = node_at(nodes, at);
-    let to = behind(nodes, frames.top(), node.next)?;
-    let value = value_at(nodes, rows, at)?;
-    let of_type = mark_of(node.lo).ok_or(StepFault::WrongType)?;
-    if !value.is_of(of_type) {
-        return Err(StepFault::WrongType);
-    }
-    if rows.room() == 0 {
-        return Err(StepFault::RowsFull);
-    }
-    Ok(Act::Declare(
-        Row {
-            name: node.name,
-            of_type,
-            constant,
-            value: value.number(),
-        },
-        to,
-    ))
-}
-
-/// The topmost row of the name of the node due.
-fn target(nodes: &[Node], rows: &Stack<Row>, at: u16) -> Result<Placed, StepFault>
-    ensures found { result ≡ target nodes.now (table rows.now) at }
-{
-    find_topmost(rows.held_items(), node_at(nodes, at).name).ok_or(StepFault::NoTarget)
-}
-
-fn assign(nodes: &[Node], rows: &Stack<Row>, at: u16) -> Result<Act, StepFault>
-    ensures decided { result ≡ assignment nodes.now (table rows.now) at }
-{
-    let value = value_at(nodes, rows, at)?;
-    let Placed { place, row } = target(nodes, rows, at)?;
-    if !value.is_of(row.of_type) || row.constant {
-        return Err(StepFault::WrongType);
-    }
-    let row = Row {
-        value: value.number(),
-        ..row
-    };
-    Ok(Act::Assign(Placed { place, row }, node_at(nodes, at).next))
-}
-
-fn get(nodes: &[Node], rows: &Stack<Row>, at: u16) -> Result<Act, StepFault>
-    ensures decided { result ≡ gets nodes.now (table rows.now) at }
-{
-    let placed = target(nodes, rows, at)?;
-    if placed.row.constant {
-        return Err(StepFault::WrongType);
-    }
-    Ok(Act::Get(placed, node_at(nodes, at).next))
-}
-
-fn put(nodes: &[Node], rows: &Stack<Row>, at: u16) -> Result<Act, StepFault>
-    ensures decided { result ≡ puts nodes.now (table rows.now) at }
-{
-    let value = value_at(nodes, rows, at)?;
-    Ok(Act::Put(value.number(), node_at(nodes, at).next))
 }
 
 /// The truth of a condition.
@@ -154,110 +38,177 @@ fn condition(value: Value) -> Result<bool, StepFault>
     }
 }
 
-fn branch(
-    nodes: &[Node],
-    rows: &Stack<Row>,
-    frames: &Stack<Frame>,
-    at: u16,
-) -> Result<Act, StepFault>
-    ensures decided { result ≡ branches nodes.now (table rows.now) (table frames.now) at }
-{
-    let node = node_at(nodes, at);
-    let value = value_at(nodes, rows, at)?;
-    let frame = Frame {
-        node: at,
-        rows: rows.len(),
-    };
-    if condition(value)? {
-        enter(frames, frame, node.b)
-    } else if node.c == 0 {
-        Ok(Act::Pass(node.next))
-    } else {
-        enter(frames, frame, node.c)
+impl Due<'_> {
+    /// The value of the expression of the node due.
+    fn value(&self) -> Result<Value, StepFault>
+        ensures evaluated { result ≡ value_at self.now.nodes.now (table self.now.rows.now) self.now.at }
+    {
+        let root = node_at(self.nodes, self.at).a;
+        Ok(evaluate_root(self.nodes, self.rows.held_items(), self.at, root)?)
     }
-}
 
-fn start_loop(
-    nodes: &[Node],
-    rows: &Stack<Row>,
-    frames: &Stack<Frame>,
-    at: u16,
-) -> Result<Act, StepFault>
-    ensures decided { result ≡ loops nodes.now (table rows.now) (table frames.now) at }
-{
-    let node = node_at(nodes, at);
-    if node.lo > node.hi {
-        return Ok(Act::Pass(node.next));
+    /// The topmost row of the name of the node due.
+    fn target(&self) -> Result<Placed, StepFault>
+        ensures found { result ≡ target self.now.nodes.now (table self.now.rows.now) self.now.at }
+    {
+        let name = node_at(self.nodes, self.at).name;
+        find_topmost(self.rows.held_items(), name).ok_or(StepFault::NoTarget)
     }
-    if frames.room() == 0 {
-        return Err(StepFault::FramesFull);
-    }
-    if rows.room() == 0 {
-        return Err(StepFault::RowsFull);
-    }
-    let frame = Frame {
-        node: at,
-        rows: rows.len(),
-    };
-    let parameter = Row {
-        name: node.name,
-        of_type: Type::Integer,
-        constant: true,
-        value: node.lo,
-    };
-    Ok(Act::Loop(frame, parameter, node.a))
-}
 
-fn start_block(
-    nodes: &[Node],
-    rows: &Stack<Row>,
-    frames: &Stack<Frame>,
-    at: u16,
-) -> Result<Act, StepFault>
-    ensures decided { result ≡ blocks nodes.now (table rows.now) (table frames.now) at }
-{
-    let node = node_at(nodes, at);
-    let frame = Frame {
-        node: at,
-        rows: rows.len(),
-    };
-    enter(frames, frame, if node.a == 0 { node.b } else { node.a })
-}
-
-fn decide_statement(
-    kind: StatementKind,
-    nodes: &[Node],
-    rows: &Stack<Row>,
-    frames: &Stack<Frame>,
-    at: u16,
-) -> Result<Act, StepFault>
-    ensures decided { result ≡ stated kind nodes.now (table rows.now) (table frames.now) at }
-{
-    match kind {
-        StatementKind::Null => Ok(Act::Pass(node_at(nodes, at).next)),
-        StatementKind::Assignment => assign(nodes, rows, at),
-        StatementKind::If => branch(nodes, rows, frames, at),
-        StatementKind::For => start_loop(nodes, rows, frames, at),
-        StatementKind::Block => start_block(nodes, rows, frames, at),
-        StatementKind::Get => get(nodes, rows, at),
-        StatementKind::Put => put(nodes, rows, at),
+    /// Where the run goes behind a declaration.
+    fn behind(&self, next: u16) -> Result<u16, StepFault>
+        ensures told { result ≡ behind self.now.nodes.now (top (table self.now.frames.now)) next }
+    {
+        if next == 0 {
+            behind_last(self.nodes, self.frames.top())
+        } else {
+            Ok(next)
+        }
     }
-}
 
-/// What the step due at node `at` does, or why it fails.
-pub fn decide(
-    nodes: &[Node],
-    rows: &Stack<Row>,
-    frames: &Stack<Frame>,
-    at: u16,
-) -> Result<Act, StepFault>
-    ensures decided { result ≡ decided nodes.now (table rows.now) (table frames.now) at }
-{
-    match standing_at(nodes, at) {
-        Standing::End => end_list(nodes, rows, frames.top()),
-        Standing::Declaration(DeclarationKind::Variable) => declare(false, nodes, rows, frames, at),
-        Standing::Declaration(DeclarationKind::Constant) => declare(true, nodes, rows, frames, at),
-        Standing::Statement(kind) => decide_statement(kind, nodes, rows, frames, at),
-        _ => Err(StepFault::NoStep),
+    /// The frame of the node due.
+    fn frame(&self) -> Frame
+        ensures made { result ≡ frame_at self.now.at (table self.now.rows.now) }
+    {
+        Frame {
+            node: self.at,
+            rows: self.rows.len(),
+        }
+    }
+
+    /// Enters the statement due, where its frame finds a place.
+    fn enter(&self, to: u16) -> Result<Act, StepFault>
+        ensures entered { result ≡ enters (table self.now.frames.now) (frame_at self.now.at (table self.now.rows.now)) to }
+    {
+        if self.frames.room() == 0 {
+            return Err(StepFault::FramesFull);
+        }
+        Ok(Act::Enter(self.frame(), to))
+    }
+
+    /// The step of a variable or a constant.
+    fn declare(&self, constant: bool) -> Result<Act, StepFault>
+        ensures decided { result ≡ declares constant self.now.nodes.now (table self.now.rows.now) (table self.now.frames.now) self.now.at }
+    {
+        let node = node_at(self.nodes, self.at);
+        let to = self.behind(node.next)?;
+        let value = self.value()?;
+        let of_type = mark_of(node.lo).ok_or(StepFault::WrongType)?;
+        if !value.is_of(of_type) {
+            return Err(StepFault::WrongType);
+        }
+        if self.rows.room() == 0 {
+            return Err(StepFault::RowsFull);
+        }
+        let row = Row {
+            name: node.name,
+            of_type,
+            constant,
+            value: i32::from(value),
+        };
+        Ok(Act::Declare(row, to))
+    }
+
+    fn assign(&self) -> Result<Act, StepFault>
+        ensures decided { result ≡ assignment self.now.nodes.now (table self.now.rows.now) self.now.at }
+    {
+        let value = self.value()?;
+        let Placed { place, row } = self.target()?;
+        if !value.is_of(row.of_type) || row.constant {
+            return Err(StepFault::WrongType);
+        }
+        let row = Row {
+            value: i32::from(value),
+            ..row
+        };
+        let to = node_at(self.nodes, self.at).next;
+        Ok(Act::Assign(Placed { place, row }, to))
+    }
+
+    fn get(&self) -> Result<Act, StepFault>
+        ensures decided { result ≡ gets self.now.nodes.now (table self.now.rows.now) self.now.at }
+    {
+        let placed = self.target()?;
+        if placed.row.constant {
+            return Err(StepFault::WrongType);
+        }
+        Ok(Act::Get(placed, node_at(self.nodes, self.at).next))
+    }
+
+    fn put(&self) -> Result<Act, StepFault>
+        ensures decided { result ≡ puts self.now.nodes.now (table self.now.rows.now) self.now.at }
+    {
+        let value = self.value()?;
+        Ok(Act::Put(i32::from(value), node_at(self.nodes, self.at).next))
+    }
+
+    fn branch(&self) -> Result<Act, StepFault>
+        ensures decided { result ≡ branches self.now.nodes.now (table self.now.rows.now) (table self.now.frames.now) self.now.at }
+    {
+        let node = node_at(self.nodes, self.at);
+        let value = self.value()?;
+        if condition(value)? {
+            self.enter(node.b)
+        } else if node.c == 0 {
+            Ok(Act::Pass(node.next))
+        } else {
+            self.enter(node.c)
+        }
+    }
+
+    fn start_loop(&self) -> Result<Act, StepFault>
+        ensures decided { result ≡ loops self.now.nodes.now (table self.now.rows.now) (table self.now.frames.now) self.now.at }
+    {
+        let node = node_at(self.nodes, self.at);
+        if node.lo > node.hi {
+            return Ok(Act::Pass(node.next));
+        }
+        if self.frames.room() == 0 {
+            return Err(StepFault::FramesFull);
+        }
+        if self.rows.room() == 0 {
+            return Err(StepFault::RowsFull);
+        }
+        let parameter = Row {
+            name: node.name,
+            of_type: Type::Integer,
+            constant: true,
+            value: node.lo,
+        };
+        Ok(Act::Loop(self.frame(), parameter, node.a))
+    }
+
+    fn start_block(&self) -> Result<Act, StepFault>
+        ensures decided { result ≡ blocks self.now.nodes.now (table self.now.rows.now) (table self.now.frames.now) self.now.at }
+    {
+        let node = node_at(self.nodes, self.at);
+        self.enter(if node.a == 0 { node.b } else { node.a })
+    }
+
+    fn decide_statement(&self, kind: StatementKind) -> Result<Act, StepFault>
+        ensures decided { result ≡ stated kind self.now.nodes.now (table self.now.rows.now) (table self.now.frames.now) self.now.at }
+    {
+        match kind {
+            StatementKind::Null => Ok(Act::Pass(node_at(self.nodes, self.at).next)),
+            StatementKind::Assignment => self.assign(),
+            StatementKind::If => self.branch(),
+            StatementKind::For => self.start_loop(),
+            StatementKind::Block => self.start_block(),
+            StatementKind::Get => self.get(),
+            StatementKind::Put => self.put(),
+        }
+    }
+
+    /// What the step does, or why it fails.
+    pub fn decide(&self) -> Result<Act, StepFault>
+        ensures decided { result ≡ decided self.now.nodes.now (table self.now.rows.now) (table self.now.frames.now) self.now.at }
+    {
+        match standing_at(self.nodes, self.at) {
+            Standing::End => self.end_list(),
+            Standing::Declaration(DeclarationKind::Variable) => self.declare(false),
+            Standing::Declaration(DeclarationKind::Constant) => self.declare(true),
+            Standing::Statement(kind) => self.decide_statement(kind),
+            _ => Err(StepFault::NoStep),
+        }
     }
 }

@@ -1,13 +1,13 @@
 //! Why a step fails, and how that ends the run.
 ghost use Rattle.std.specs.Prelude.{◌≡◌};
-ghost use Rattle.machine.specs.Outcomes.{expression_ending, ending_of};
+ghost use Rattle.machine.specs.Outcomes.{number_of, expression_ending, ending_of};
 ghost use Rattle.machine.specs.declared.fault.StepFault.TheVariants.{Expression};
 
 use crate::outcome::Outcome;
 use evaluator::ExpressionFault;
 
 /// A fault of a step. All but a fault of an expression are told at the node that was due.
-#[derive(Clone, Copy)]
+#[derive(Clone, Copy, PartialEq, Eq, Debug)]
 pub enum StepFault {
     /// An expression has no value.
     Expression(ExpressionFault),
@@ -38,14 +38,14 @@ impl From<ExpressionFault> for StepFault {
 }
 
 /// How a run ends: its outcome, the cause and the node.
-#[derive(Clone, Copy)]
+#[derive(Clone, Copy, PartialEq, Eq, Debug)]
 pub struct Ending {
     pub outcome: Outcome,
-    pub cause: u8,
+    pub cause: StepFault,
     pub node: u16,
 }
 
-fn ended_by(outcome: Outcome, cause: u8, node: u16) -> Ending
+fn ended_by(outcome: Outcome, cause: StepFault, node: u16) -> Ending
     ensures told { result ≡ record { outcome = outcome; cause = cause; node = node } }
 {
     Ending {
@@ -58,30 +58,49 @@ fn ended_by(outcome: Outcome, cause: u8, node: u16) -> Ending
 fn expression_ending(fault: ExpressionFault) -> Ending
     ensures told { result ≡ expression_ending fault }
 {
+    let cause = StepFault::Expression(fault);
     match fault {
-        ExpressionFault::Arithmetic(fault, n) => ended_by(Outcome::NumericError, fault.cause(), n),
-        ExpressionFault::NoPart(n) => ended_by(Outcome::Stuck, 3, n),
-        ExpressionFault::NoRow(n) => ended_by(Outcome::Stuck, 4, n),
-        ExpressionFault::Unsuited(n) => ended_by(Outcome::Stuck, 5, n),
-        ExpressionFault::TooDeep(n) => ended_by(Outcome::Stuck, 6, n),
+        ExpressionFault::Arithmetic(_, n) => ended_by(Outcome::NumericError, cause, n),
+        ExpressionFault::NoPart(n)
+        | ExpressionFault::NoRow(n)
+        | ExpressionFault::Unsuited(n)
+        | ExpressionFault::TooDeep(n) => ended_by(Outcome::Stuck, cause, n),
     }
 }
 
 impl StepFault {
+    /// The number by which a run tells the fault, from 1 on.
+    pub fn number(self) -> u8
+        ensures numbered { result ≡ number_of self }
+    {
+        match self {
+            StepFault::Expression(fault) => fault.number(),
+            StepFault::NotBoolean => 7,
+            StepFault::NothingWaits => 8,
+            StepFault::NoPlace => 9,
+            StepFault::NoStep => 10,
+            StepFault::NoTarget => 11,
+            StepFault::WrongType => 12,
+            StepFault::RowsFull => 13,
+            StepFault::FramesFull => 14,
+        }
+    }
+
     /// How the fault of a step at node `at` ends the run.
     pub fn ending(self, at: u16) -> Ending
         ensures told { result ≡ ending_of self at }
     {
         match self {
             StepFault::Expression(fault) => expression_ending(fault),
-            StepFault::NotBoolean => ended_by(Outcome::ConstraintError, 7, at),
-            StepFault::NothingWaits => ended_by(Outcome::EndError, 8, at),
-            StepFault::NoPlace => ended_by(Outcome::UseError, 9, at),
-            StepFault::NoStep => ended_by(Outcome::Stuck, 10, at),
-            StepFault::NoTarget => ended_by(Outcome::Stuck, 11, at),
-            StepFault::WrongType => ended_by(Outcome::Stuck, 12, at),
-            StepFault::RowsFull => ended_by(Outcome::StorageError, 13, at),
-            StepFault::FramesFull => ended_by(Outcome::StorageError, 14, at),
+            StepFault::NotBoolean => ended_by(Outcome::ConstraintError, self, at),
+            StepFault::NothingWaits => ended_by(Outcome::EndError, self, at),
+            StepFault::NoPlace => ended_by(Outcome::UseError, self, at),
+            StepFault::NoStep | StepFault::NoTarget | StepFault::WrongType => {
+                ended_by(Outcome::Stuck, self, at)
+            }
+            StepFault::RowsFull | StepFault::FramesFull => {
+                ended_by(Outcome::StorageError, self, at)
+            }
         }
     }
 }

@@ -1,43 +1,34 @@
 //! Going for a budget of steps.
 ghost use Rattle.std.specs.Prelude.{◌≡◌, ◌+◌, ◌≤◌, length, IfErr, OnOk};
-ghost use Rattle.stack.specs.Stacks.{table, SameSlice};
 ghost use Rattle.port.specs.Meaning.{Meaning};
 ghost use Rattle.machine.specs.Counts.{Counted};
 ghost use Rattle.machine.specs.Go.{state_of, going, go_answer, gone};
-ghost use Rattle.machine.specs.State.{state};
+ghost use Rattle.machine.specs.Machines.{state, SameLoans};
 
 use crate::frame::Frame;
-use crate::progress::Progress;
-use crate::run::Run;
-use crate::step::step;
+use crate::machine::Machine;
+use crate::run::{Run, Shown};
 use evaluator::Row;
 use port::Port;
 use procedure::limits::{MAX_NODES, MAX_STEPS};
 use procedure::{Node, Reason, Refusal, demand};
 use stack::Stack;
 
-/// Makes steps until the budget is used or the run is no longer PAUSED.
-fn advance<P: Port>(
-    progress: &mut Progress,
-    nodes: &[Node],
-    rows: &mut Stack<Row>,
-    frames: &mut Stack<Frame>,
-    port: &mut P,
-    budget: u64,
-)
-    requires few { budget + progress.old.steps ≤ 1000000000 }
-    requires counted { Counted progress.old }
-    ensures gone { state progress.new (table rows.new) (table frames.new) (P.meaning port.new)
-        ≡ going budget nodes.now (state progress.old (table rows.old) (table frames.old) (P.meaning port.old)) }
-    ensures counted { Counted progress.new }
-    ensures same_rows { SameSlice rows.old.places rows.new.places }
-    ensures same_frames { SameSlice frames.old.places frames.new.places }
-{
-    for _ in 0..budget {
-        if !progress.outcome.is_paused() {
-            return;
+impl<P: Port> Machine<'_, '_, '_, '_, '_, P> {
+    /// Makes steps until the budget is used or the run is no longer PAUSED.
+    fn advance(&mut self, nodes: &[Node], budget: u64)
+        requires few { budget + self.old.progress.steps ≤ 1000000000 }
+        requires counted { Counted self.old.progress }
+        ensures gone { state P.meaning self.new ≡ going budget nodes.now (state P.meaning self.old) }
+        ensures counted { Counted self.new.progress }
+        ensures same { SameLoans self.old self.new }
+    {
+        for _ in 0..budget {
+            if !self.progress.outcome.is_paused() {
+                return;
+            }
+            self.step(nodes);
         }
-        step(progress, nodes, rows, frames, port);
     }
 }
 
@@ -50,22 +41,22 @@ fn admit(
     budget: u64,
 ) -> Result<(), Refusal>
     ensures answered { (port : Meaning) → result ≡ go_answer budget nodes.now (state_of run.now rows.now frames.now port) }
-    ensures admitted { OnOk result ((budget + run.now.progress.steps ≤ 1000000000)
-        × (run.now.rows ≤ length rows.now) × (run.now.frames ≤ length frames.now)) }
+    ensures admitted { OnOk result ((budget + run.now.shown.progress.steps ≤ 1000000000)
+        × (run.now.shown.rows ≤ length rows.now) × (run.now.shown.frames ≤ length frames.now)) }
 {
     demand(
         0 < nodes.len() && nodes.len() <= MAX_NODES,
         Reason::Bulky,
         0,
     )?;
-    demand(run.progress.outcome.is_paused(), Reason::Over, 0)?;
+    demand(run.shown.progress.outcome.is_paused(), Reason::Over, 0)?;
     demand(
-        budget <= MAX_STEPS && budget + run.progress.steps <= MAX_STEPS,
+        budget <= MAX_STEPS && budget + run.shown.progress.steps <= MAX_STEPS,
         Reason::Overdrawn,
         0,
     )?;
     demand(
-        run.rows <= rows.len() && run.frames <= frames.len(),
+        run.shown.rows <= rows.len() && run.shown.frames <= frames.len(),
         Reason::Short,
         0,
     )
@@ -87,19 +78,19 @@ pub fn go<P: Port>(
         (run.new ≡ run.old) × (rows.new ≡ rows.old) × (frames.new ≡ frames.old) × (port.new ≡ port.old)) }
 {
     admit(run, nodes, rows, frames, budget)?;
-    let mut progress = run.progress;
-    let mut row_stack = Stack::of(rows, run.rows);
-    let mut frame_stack = Stack::of(frames, run.frames);
-    advance(
-        &mut progress,
-        nodes,
-        &mut row_stack,
-        &mut frame_stack,
+    let mut row_stack = Stack::of(rows, run.shown.rows);
+    let mut frame_stack = Stack::of(frames, run.shown.frames);
+    let mut machine = Machine {
+        progress: run.shown.progress,
+        rows: &mut row_stack,
+        frames: &mut frame_stack,
         port,
-        budget,
-    );
-    run.rows = row_stack.len();
-    run.frames = frame_stack.len();
-    run.progress = progress;
+    };
+    machine.advance(nodes, budget);
+    run.shown = Shown {
+        progress: machine.progress,
+        rows: row_stack.len(),
+        frames: frame_stack.len(),
+    };
     Ok(())
 }

@@ -6,8 +6,9 @@
 //! generic stack.
 //!
 //! One step is one definition (`stepped`, specs/State.antt): what stands at the node due decides on an act or a fault (`decided`,
-//! specs/Decide.antt), and the act, or the end that the fault makes of the run (specs/Outcomes.antt), is carried out. Going is so
-//! many steps while the run is PAUSED. The code is written for every `Port` and knows only what the port means.
+//! specs/Decide.antt), and the act, or the end that the fault makes of the run (specs/Outcomes.antt), is carried out. In the code an
+//! act answers the node that the run goes to, or a fault, and the step alone counts and concludes (`concluded`). Going is so many
+//! steps while the run is PAUSED. The code is written for every `Port` and knows only what the port means.
 //!
 //! Which procedures are allowed is left to the check, and what holds of their runs to the crates above.
 #![tactic(auto)]
@@ -15,12 +16,15 @@
 mod act;
 pub mod begin;
 mod decide;
-mod fault;
+mod due;
+pub mod fault;
 pub mod frame;
 pub mod go;
 mod list_end;
+mod machine;
 mod mark;
 pub mod outcome;
+mod parameters;
 pub mod progress;
 pub mod run;
 mod step;

@@ -1,17 +1,17 @@
 //! The step at a list's end.
-ghost use Rattle.std.specs.Prelude.{◌≡◌};
+ghost use Rattle.std.specs.Prelude.{◌≡◌, Some};
+ghost use Rattle.stack.specs.Acts.{top};
 ghost use Rattle.stack.specs.Stacks.{table};
-ghost use Rattle.procedure.specs.Kind.{kind_of};
-ghost use Rattle.machine.specs.Decide.{turns, leaves, list_end};
+ghost use Rattle.machine.specs.Decide.{turns, list_end};
 
 use crate::act::Act;
+use crate::due::Due;
 use crate::fault::StepFault;
 use crate::frame::Frame;
 use evaluator::{Placed, Row};
 use procedure::kind::StatementKind;
 use procedure::table::node_at;
 use procedure::{Kind, Node};
-use stack::Stack;
 
 /// The end of a FOR's body, with the row of its parameter. The bound is asked before anything is added.
 fn turn(parameter: Option<Row>, node: Node, frame: Frame) -> Result<Act, StepFault>
@@ -32,26 +32,33 @@ fn turn(parameter: Option<Row>, node: Node, frame: Frame) -> Result<Act, StepFau
     Ok(Act::Turn(placed, node.a))
 }
 
-/// The end of a list under a frame.
-fn leave(node: Node, rows: &Stack<Row>, frame: Frame) -> Result<Act, StepFault>
-    ensures decided { result ≡ leaves (kind_of node.kind) node (table rows.now) frame }
-{
-    match Kind::of_number(node.kind) {
-        Some(Kind::Statement(StatementKind::If)) => Ok(Act::Leave(rows.len(), node.next)),
-        Some(Kind::Statement(StatementKind::For)) => turn(rows.get(frame.rows), node, frame),
-        Some(Kind::Statement(StatementKind::Block)) if frame.rows <= rows.len() => {
-            Ok(Act::Leave(frame.rows, node.next))
+impl Due<'_> {
+    /// The end of a list under a frame.
+    fn leave(&self, frame: Frame) -> Result<Act, StepFault>
+        ensures decided { result ≡ list_end self.now.nodes.now (table self.now.rows.now) (Some frame) }
+    {
+        let node = node_at(self.nodes, frame.node);
+        match node.listed_kind() {
+            Some(Kind::Statement(StatementKind::If)) => Ok(Act::Leave(self.rows.len(), node.next)),
+            Some(Kind::Statement(StatementKind::For)) => turn(
+                self.rows.get(frame.rows),
+                node,
+                frame,
+            ),
+            Some(Kind::Statement(StatementKind::Block)) if frame.rows <= self.rows.len() => {
+                Ok(Act::Leave(frame.rows, node.next))
+            }
+            _ => Err(StepFault::NoStep),
         }
-        _ => Err(StepFault::NoStep),
     }
-}
 
-/// The end of a list, under the top frame if there is one.
-pub fn end_list(nodes: &[Node], rows: &Stack<Row>, outer: Option<Frame>) -> Result<Act, StepFault>
-    ensures decided { result ≡ list_end nodes.now (table rows.now) outer }
-{
-    match outer {
-        None => Ok(Act::Done),
-        Some(frame) => leave(node_at(nodes, frame.node), rows, frame),
+    /// The end of a list, under the top frame if there is one.
+    pub fn end_list(&self) -> Result<Act, StepFault>
+        ensures decided { result ≡ list_end self.now.nodes.now (table self.now.rows.now) (top (table self.now.frames.now)) }
+    {
+        match self.frames.top() {
+            None => Ok(Act::Done),
+            Some(frame) => self.leave(frame),
+        }
     }
 }

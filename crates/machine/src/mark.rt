@@ -8,8 +8,5 @@ use procedure::types::Type;
 pub fn mark_of(lo: i32) -> Option<Type>
     ensures named { result ≡ mark_of lo }
 {
-    match u16::try_from(lo) {
-        Ok(mark) => Type::of_name(mark),
-        Err(_) => None,
-    }
+    u16::try_from(lo).ok().and_then(Type::of_name)
 }

@@ -1,6 +1,8 @@
 //! How a run stands.
-ghost use Rattle.std.specs.Prelude.{◌≡◌};
+ghost use Rattle.std.specs.Prelude.{◌≡◌, Some};
 ghost use Rattle.machine.specs.Outcomes.{outcome_word, is_paused};
+
+use std::fmt;
 
 /// How a run stands: it can go on, or it has ended in one of these ways.
 #[derive(Clone, Copy, PartialEq, Eq, Debug)]
@@ -20,14 +22,16 @@ impl Outcome {
     pub fn is_paused(self) -> bool
         ensures told { result ≡ is_paused self }
     {
-        matches!(self, Outcome::Paused)
+        self == Outcome::Paused
     }
+}
 
-    /// The word that stands for the outcome.
-    pub fn word(self) -> &'static str
-        ensures worded { result.now ≡ outcome_word self }
-    {
-        match self {
+/// The word that stands for the outcome.
+impl fmt::Display for Outcome {
+    ghost output = { λ o. Some (outcome_word o) };
+
+    fn fmt<W: fmt::Write>(&self, f: &mut fmt::Formatter<W>) -> fmt::Result {
+        let word = match self {
             Outcome::Paused => "PAUSED",
             Outcome::Done => "DONE",
             Outcome::NumericError => "NUMERIC_ERROR",
@@ -36,6 +40,7 @@ impl Outcome {
             Outcome::UseError => "USE_ERROR",
             Outcome::Stuck => "STUCK",
             Outcome::StorageError => "STORAGE_ERROR",
-        }
+        };
+        f.write_str(word)
     }
 }

@@ -1,11 +1,13 @@
 //! How far a run has come.
+use crate::fault::StepFault;
 use crate::outcome::Outcome;
 
-/// The outcome, its cause and node, the node due next (0 at a list's end), and what was counted since the run began.
-#[derive(Clone, Copy)]
+/// The outcome; where the run has failed, its cause and node; the node due next (0 at a list's end); and what was counted since the
+/// run began.
+#[derive(Clone, Copy, PartialEq, Eq, Debug)]
 pub struct Progress {
     pub outcome: Outcome,
-    pub cause: u8,
+    pub cause: Option<StepFault>,
     pub node: u16,
     pub at: u16,
     pub steps: u64,

@@ -5,18 +5,16 @@ use crate::progress::Progress;
 
 pub mod methods;
 
-/// How far a run has come, and how many rows and frames it holds. Only `begin` makes one.
-pub struct Run {
-    pub(crate) progress: Progress,
-    pub(crate) rows: usize,
-    pub(crate) frames: usize,
-    ghost counted: { Counted progress },
-}
-
-/// What a run shows of itself.
-#[derive(Clone, Copy)]
+/// What a run shows of itself: how far it has come, and how many rows and frames it holds.
+#[derive(Clone, Copy, PartialEq, Eq, Debug)]
 pub struct Shown {
     pub progress: Progress,
     pub rows: usize,
     pub frames: usize,
+}
+
+/// A run. Only `begin` makes one.
+pub struct Run {
+    pub(crate) shown: Shown,
+    ghost counted: { Counted shown.progress },
 }

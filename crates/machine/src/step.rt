@@ -2,18 +2,16 @@
 ghost use Rattle.std.specs.Prelude.{◌≡◌, ◌+◌, ◌<◌};
 ghost use Rattle.stack.specs.Acts.{cut};
 ghost use Rattle.stack.specs.Stacks.{table, SameSlice};
-ghost use Rattle.port.specs.Meaning.{Meaning, get_answer};
-ghost use Rattle.machine.specs.Counts.{Counted, one_step};
-ghost use Rattle.machine.specs.Decide.{Frames};
-ghost use Rattle.machine.specs.Outcomes.{ending_of};
-ghost use Rattle.machine.specs.State.{state, pushed, rewritten, gone_to, done, ended, received, acted, stepped};
+ghost use Rattle.port.specs.Meaning.{get_answer, put_answer};
+ghost use Rattle.machine.specs.Counts.{Counted};
+ghost use Rattle.machine.specs.Machines.{state, SameLoans};
+ghost use Rattle.machine.specs.State.{pushed, rewritten, received, sent, acted, concluded, stepped};
 
 use crate::act::Act;
-use crate::decide::decide;
+use crate::due::Due;
 use crate::fault::StepFault;
-use crate::frame::Frame;
+use crate::machine::Machine;
 use crate::outcome::Outcome;
-use crate::progress::Progress;
 use evaluator::{Placed, Row, Value};
 use port::Port;
 use procedure::Node;
@@ -45,149 +43,117 @@ fn rewrite_top(rows: &mut Stack<Row>, placed: Placed)
     }
 }
 
-/// Counts a step.
-fn count(progress: &mut Progress)
-    requires few { progress.old.steps < 1000000000 }
-    ensures counted { progress.new ≡ one_step progress.old }
-{
-    progress.steps += 1;
-}
-
-/// A step was made, and the run goes on at a node.
-fn go_on(progress: &mut Progress, to: u16)
-    requires few { progress.old.steps < 1000000000 }
-    ensures gone { progress.new ≡ gone_to to progress.old }
-{
-    progress.at = to;
-    count(progress);
-}
-
-/// A step was made, and the run is done.
-fn finish(progress: &mut Progress)
-    requires few { progress.old.steps < 1000000000 }
-    ensures done { progress.new ≡ done progress.old }
-{
-    progress.outcome = Outcome::Done;
-    count(progress);
-}
-
-/// A step was made, and the run has failed.
-fn fail(progress: &mut Progress, fault: StepFault)
-    requires few { progress.old.steps < 1000000000 }
-    ensures ended { progress.new ≡ ended (ending_of fault progress.old.at) progress.old }
-{
-    let ending = fault.ending(progress.at);
-    progress.outcome = ending.outcome;
-    progress.cause = ending.cause;
-    progress.node = ending.node;
-    count(progress);
-}
-
-/// Gets a number for the row at its place.
-fn receive<P: Port>(
-    placed: Placed,
-    to: u16,
-    progress: &mut Progress,
-    rows: &mut Stack<Row>,
-    port: &mut P,
-)
-    requires few { progress.old.steps < 1000000000 }
-    requires counted { Counted progress.old }
-    ensures received { (frames : Frames) → state progress.new (table rows.new) frames (P.meaning port.new)
-        ≡ received (get_answer (P.meaning port.old)) placed to (state progress.old (table rows.old) frames (P.meaning port.old)) }
-    ensures same { SameSlice rows.old.places rows.new.places }
-{
-    let Some(number) = port.get() else {
-        fail(progress, StepFault::NothingWaits);
-        return;
-    };
-    progress.reads += 1;
-    let Placed { place, row } = placed;
-    if Value::of_number(number, row.of_type).is_some() {
+impl<P: Port> Machine<'_, '_, '_, '_, '_, P> {
+    /// Gets a number for the row at its place. It has left the port and is counted also where the row cannot hold it.
+    fn receive(&mut self, placed: Placed, to: u16) -> Result<Option<u16>, StepFault>
+        requires counted { Counted self.old.progress }
+        ensures received { concluded result (state P.meaning self.new)
+            ≡ received (get_answer (P.meaning self.old.port.now)) placed to (state P.meaning self.old) }
+        ensures same { SameLoans self.old self.new }
+    {
+        let Some(number) = self.port.get() else {
+            return Err(StepFault::NothingWaits);
+        };
+        self.progress.reads += 1;
+        let Placed { place, row } = placed;
+        if Value::of_number(number, row.of_type).is_none() {
+            return Err(StepFault::NotBoolean);
+        }
         let row = Row {
             value: number,
             ..row
         };
-        rewrite(rows, Placed { place, row });
-        go_on(progress, to);
-    } else {
-        fail(progress, StepFault::NotBoolean);
+        rewrite(self.rows, Placed { place, row });
+        Ok(Some(to))
     }
-}
 
-/// Carries out an act, which is a step.
-fn carry_out<P: Port>(
-    act: Act,
-    progress: &mut Progress,
-    rows: &mut Stack<Row>,
-    frames: &mut Stack<Frame>,
-    port: &mut P,
-)
-    requires few { progress.old.steps < 1000000000 }
-    requires counted { Counted progress.old }
-    ensures acted { state progress.new (table rows.new) (table frames.new) (P.meaning port.new)
-        ≡ acted act (state progress.old (table rows.old) (table frames.old) (P.meaning port.old)) }
-    ensures same_rows { SameSlice rows.old.places rows.new.places }
-    ensures same_frames { SameSlice frames.old.places frames.new.places }
-{
-    match act {
-        Act::Done => finish(progress),
-        Act::Pass(to) => go_on(progress, to),
-        Act::Declare(row, to) => {
-            push(rows, row);
-            go_on(progress, to);
-        }
-        Act::Assign(placed, to) => {
-            rewrite(rows, placed);
-            go_on(progress, to);
-        }
-        Act::Get(placed, to) => receive(placed, to, progress, rows, port),
-        Act::Put(number, to) => {
-            if port.put(number).is_ok() {
-                progress.writes += 1;
-                go_on(progress, to);
-            } else {
-                fail(progress, StepFault::NoPlace);
+    /// Puts a number to the port.
+    fn send(&mut self, number: i32, to: u16) -> Result<Option<u16>, StepFault>
+        requires counted { Counted self.old.progress }
+        ensures sent { concluded result (state P.meaning self.new)
+            ≡ sent (put_answer (P.meaning self.old.port.now)) number to (state P.meaning self.old) }
+        ensures same { SameLoans self.old self.new }
+    {
+        self.port.put(number).map_err(|_| StepFault::NoPlace)?;
+        self.progress.writes += 1;
+        Ok(Some(to))
+    }
+
+    /// Carries out an act. Answers the node that the run goes to, or none where it is done.
+    fn carry_out(&mut self, act: Act) -> Result<Option<u16>, StepFault>
+        requires counted { Counted self.old.progress }
+        ensures acted { concluded result (state P.meaning self.new) ≡ acted act (state P.meaning self.old) }
+        ensures same { SameLoans self.old self.new }
+    {
+        let to = match act {
+            Act::Done => return Ok(None),
+            Act::Get(placed, to) => return self.receive(placed, to),
+            Act::Put(number, to) => return self.send(number, to),
+            Act::Pass(to) => to,
+            Act::Declare(row, to) => {
+                push(self.rows, row);
+                to
+            }
+            Act::Assign(placed, to) => {
+                rewrite(self.rows, placed);
+                to
+            }
+            Act::Enter(frame, to) => {
+                push(self.frames, frame);
+                to
+            }
+            Act::Loop(frame, row, to) => {
+                push(self.rows, row);
+                push(self.frames, frame);
+                to
+            }
+            Act::Turn(placed, to) => {
+                rewrite_top(self.rows, placed);
+                to
+            }
+            Act::Leave(count, to) => {
+                self.rows.cut(count);
+                let _ = self.frames.take_off();
+                to
+            }
+        };
+        Ok(Some(to))
+    }
+
+    /// Decides on the act that is due, and carries it out.
+    fn perform(&mut self, nodes: &[Node]) -> Result<Option<u16>, StepFault>
+        requires counted { Counted self.old.progress }
+        ensures performed { concluded result (state P.meaning self.new) ≡ stepped nodes.now (state P.meaning self.old) }
+        ensures same { SameLoans self.old self.new }
+    {
+        let due = Due {
+            nodes,
+            rows: &*self.rows,
+            frames: &*self.frames,
+            at: self.progress.at,
+        };
+        let act = due.decide()?;
+        self.carry_out(act)
+    }
+
+    /// One step: it counts, and then the run goes on, is done or has failed.
+    pub fn step(&mut self, nodes: &[Node])
+        requires few { self.old.progress.steps < 1000000000 }
+        requires counted { Counted self.old.progress }
+        ensures stepped { state P.meaning self.new ≡ stepped nodes.now (state P.meaning self.old) }
+        ensures same { SameLoans self.old self.new }
+    {
+        let conclusion = self.perform(nodes);
+        self.progress.steps += 1;
+        match conclusion {
+            Ok(Some(to)) => self.progress.at = to,
+            Ok(None) => self.progress.outcome = Outcome::Done,
+            Err(fault) => {
+                let ending = fault.ending(self.progress.at);
+                self.progress.outcome = ending.outcome;
+                self.progress.cause = Some(ending.cause);
+                self.progress.node = ending.node;
             }
         }
-        Act::Enter(frame, to) => {
-            push(frames, frame);
-            go_on(progress, to);
-        }
-        Act::Loop(frame, row, to) => {
-            push(rows, row);
-            push(frames, frame);
-            go_on(progress, to);
-        }
-        Act::Turn(placed, to) => {
-            rewrite_top(rows, placed);
-            go_on(progress, to);
-        }
-        Act::Leave(count, to) => {
-            rows.cut(count);
-            let _ = frames.take_off();
-            go_on(progress, to);
-        }
-    }
-}
-
-/// One step.
-pub fn step<P: Port>(
-    progress: &mut Progress,
-    nodes: &[Node],
-    rows: &mut Stack<Row>,
-    frames: &mut Stack<Frame>,
-    port: &mut P,
-)
-    requires few { progress.old.steps < 1000000000 }
-    requires counted { Counted progress.old }
-    ensures stepped { state progress.new (table rows.new) (table frames.new) (P.meaning port.new)
-        ≡ stepped nodes.now (state progress.old (table rows.old) (table frames.old) (P.meaning port.old)) }
-    ensures same_rows { SameSlice rows.old.places rows.new.places }
-    ensures same_frames { SameSlice frames.old.places frames.new.places }
-{
-    match decide(nodes, rows, frames, progress.at) {
-        Ok(act) => carry_out(act, progress, rows, frames, port),
-        Err(fault) => fail(progress, fault),
     }
 }

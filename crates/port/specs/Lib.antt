@@ -1,5 +1,4 @@
 pub mod Meaning
-pub mod Places
 pub mod Record
 pub mod Wave
 pub mod Calibrator

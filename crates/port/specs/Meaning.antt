@@ -1,6 +1,6 @@
 -- What a port means, and what get and put answer and make of it. Assumes nothing.
 use Rattle.std.specs.Prelude.{ℕ, zero, suc, List, [], ◌∷◌, ◌++◌, ℤ, Some, None, Ok, Err, Option, Result}
-use Rattle.port.specs.declared.port.Full.{Full}
+use Rattle.stack.specs.declared.Full.{Full}
 
 -- the numbers that wait and the numbers taken, each the first one first, and how many more find a place
 pub record Meaning : Type 0 where

@@ -1,19 +1,25 @@
 -- A square wave. Assumes nothing.
-use Rattle.std.specs.Prelude.{ℕ, ◌-◌, ◌/◌, ◌%◌, cond, List, map, ℤ, neg_ℤ, ◌==◌}
+use Rattle.std.specs.Prelude.{ℕ, ◌-◌, ◌/◌, ◌%◌, Bool, cond, ◌&&◌, List, map, ℤ, pos, neg_ℤ, ◌==◌, int_le, nat_le}
 use Rattle.std.specs.List.{range_with_len}
 use Rattle.port.specs.declared.wave.SquareWave.{SquareWave}
+use Rattle.port.specs.declared.samples.Samples.{Samples}
 
--- number i of amplitude a and half period h: a in the even half periods, and -a in the odd ones
-abbrev pub sample : ℤ → ℕ → ℕ → ℤ
-sample a h i = cond (i / h % 2 == 0) a (neg_ℤ a)
+abbrev pub within_limits : SquareWave → Bool
+within_limits w =
+    int_le (pos 0) w.amplitude && (int_le w.amplitude (pos 8388607)
+    && (nat_le 1 w.half_period && (nat_le w.half_period 10000 && nat_le w.count 1000000)))
+
+-- number i: the amplitude in the even half periods, and its negative in the odd ones
+abbrev pub sample : SquareWave → ℕ → ℤ
+sample w i = cond (i / w.half_period % 2 == 0) w.amplitude (neg_ℤ w.amplitude)
 
 -- k numbers, from number i on
-abbrev pub samples : ℤ → ℕ → ℕ → ℕ → List ℤ
-samples a h i k = map (sample a h) (range_with_len i k)
+abbrev pub samples : SquareWave → ℕ → ℕ → List ℤ
+samples w i k = map (sample w) (range_with_len i k)
 
--- the numbers 0 to k - 1
-abbrev pub square_wave : ℤ → ℕ → ℕ → List ℤ
-square_wave a h k = samples a h 0 k
+-- the numbers 0 to count - 1
+abbrev pub square_wave : SquareWave → List ℤ
+square_wave w = samples w 0 w.count
 
-abbrev pub wave_left : SquareWave → List ℤ
-wave_left w = samples w.amplitude w.half_period w.next (w.count - w.next)
+abbrev pub samples_left : Samples → List ℤ
+samples_left s = samples s.wave s.next (s.wave.count - s.next)

@@ -1,28 +1,70 @@
-//! The calibrator, a square wave to test a station with: its limits, its fields and what always holds of
-//! them.
-ghost use Rattle.std.specs.Prelude.{◌≤◌};
+//! The calibrator, a square wave to test a station with.
+ghost use Rattle.std.specs.Prelude.{◌≡◌, length, pos};
+ghost use Rattle.port.specs.Calibrator.{calibrator_meaning, meaning_of, calibration, Wave525Waits, wave525};
+ghost use Rattle.port.specs.Wave.{square_wave};
 
+use crate::port::Port;
+use crate::samples::Samples;
 use crate::wave::SquareWave;
-
-pub mod methods;
-
-/// The largest amplitude, that of a 24-bit digitiser.
-pub const MAX_AMPLITUDE: i32 = 8_388_607;
-
-/// The longest half period.
-pub const MAX_HALF_PERIOD: u32 = 10_000;
-
-/// The most numbers of a wave.
-pub const MAX_COUNT: u32 = 1_000_000;
+use arrayvec::ArrayVec;
+use procedure::{Reason, Refusal};
+use stack::Full;
 
 /// The places of a calibrator.
 pub const PLACES: usize = 256;
 
-/// A port that computes what waits, and has places of its own: the first `used` hold the numbers taken.
+/// A port that computes what waits, and has places of its own for the numbers taken.
 #[derive(Drop)]
 pub struct Calibrator {
-    wave: SquareWave,
-    places: [i32; PLACES],
-    used: usize,
-    ghost within: { used ≤ 256 },
+    samples: Samples,
+    taken: ArrayVec<i32, PLACES>,
+}
+
+impl Calibrator {
+    /// The wave waits, nothing is taken, and all places are left; or a limit is out of its range.
+    pub fn new(wave: SquareWave) -> Result<Calibrator, Refusal>
+        ensures starts { meaning_of result ≡ calibration wave }
+    {
+        if !wave.is_within_limits() {
+            return Err(Reason::Unset.at(0));
+        }
+        Ok(Calibrator {
+            samples: Samples::of(wave),
+            taken: ArrayVec::new(),
+        })
+    }
+
+    /// How many numbers wait.
+    pub fn waiting(&self) -> u32
+        ensures waiting { result ≡ length (calibrator_meaning self.now).waiting }
+    {
+        self.samples.left()
+    }
+
+    /// The numbers taken, the first one first.
+    pub fn taken(&self) -> &[i32]
+        ensures taken { result.now ≡ (calibrator_meaning self.now).taken }
+    {
+        self.taken.as_slice()
+    }
+}
+
+impl Port for Calibrator {
+    ghost meaning = { calibrator_meaning };
+
+    fn get(&mut self) -> Option<i32> {
+        self.samples.next()
+    }
+
+    fn put(&mut self, number: i32) -> Result<(), Full> {
+        self.taken.try_push(number).map_err(|_| Full)
+    }
+}
+
+/// The numbers that wait at a calibrator of amplitude 5, half period 2 and count 5.
+pub fn example_wave() -> [i32; 5]
+    ensures shown { Wave525Waits }
+    ensures numbers { result ≡ square_wave wave525 }
+{
+    [5, 5, -5, -5, 5]
 }

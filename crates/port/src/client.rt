@@ -3,7 +3,8 @@ ghost use Rattle.std.specs.Prelude.{◌≡◌, min, ◌++◌, length, take, drop
 ghost use Rattle.port.specs.Client.{after_gets, counted};
 ghost use Rattle.port.specs.Meaning.{Meaning, put_answer};
 
-use crate::port::{Full, Port};
+use crate::port::Port;
+use stack::Full;
 
 /// Gets numbers into `numbers`, from its first place on, until it is full or none waits, and tells how
 /// many it got.

@@ -19,11 +19,13 @@
 
 pub mod calibrator;
 pub mod client;
-mod places;
 pub mod port;
 pub mod record;
-mod wave;
+mod samples;
+pub mod wave;
 
 pub use calibrator::Calibrator;
-pub use port::{Full, Port};
+pub use port::Port;
 pub use record::RecordPort;
+pub use stack::Full;
+pub use wave::SquareWave;

@@ -6,7 +6,7 @@ ghost use Rattle.port.specs.Meaning.{at_start, first};
 ghost use Rattle.port_uses.specs.Owner.{passed, first_counted, waited, read_front};
 
 use port::client::{count_into, read_into};
-use port::{Calibrator, Port, RecordPort};
+use port::{Calibrator, Port, RecordPort, SquareWave};
 use procedure::Refusal;
 
 /// Passes the first of `numbers` on to the first of `places`.
@@ -41,30 +41,20 @@ pub fn count_record(numbers: &[i32], limit: u16) -> Option<i32>
 }
 
 /// How many numbers of a wave there are, up to `limit`, as the same client puts it.
-pub fn count_wave(
-    amplitude: i32,
-    half_period: u32,
-    count: u32,
-    limit: u16,
-) -> Result<Option<i32>, Refusal>
-    ensures first { result ≡ first_counted limit (calibration amplitude half_period count) }
+pub fn count_wave(wave: SquareWave, limit: u16) -> Result<Option<i32>, Refusal>
+    ensures first { result ≡ first_counted limit (calibration wave) }
 {
-    let mut port = Calibrator::new(amplitude, half_period, count)?;
+    let mut port = Calibrator::new(wave)?;
     let _ = count_into(&mut port, limit);
     Ok(port.taken().first().copied())
 }
 
 /// Reads the front of a wave into `numbers`, and tells how many numbers waited.
-pub fn read_wave(
-    amplitude: i32,
-    half_period: u32,
-    count: u32,
-    numbers: &mut [i32],
-) -> Result<u32, Refusal>
-    ensures waited { result ≡ waited (calibration amplitude half_period count) }
-    ensures front { numbers.new ≡ read_front (calibration amplitude half_period count) numbers.old }
+pub fn read_wave(wave: SquareWave, numbers: &mut [i32]) -> Result<u32, Refusal>
+    ensures waited { result ≡ waited (calibration wave) }
+    ensures front { numbers.new ≡ read_front (calibration wave) numbers.old }
 {
-    let mut port = Calibrator::new(amplitude, half_period, count)?;
+    let mut port = Calibrator::new(wave)?;
     let waiting = port.waiting();
     read_into(&mut port, numbers);
     Ok(waiting)

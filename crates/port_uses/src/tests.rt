@@ -3,8 +3,8 @@ ghost use Rattle.port.specs.Client.{counted};
 ghost use Rattle.port.specs.Meaning.{at_start};
 
 use crate::owner::*;
-use port::RecordPort;
 use port::client::count_into;
+use port::{RecordPort, SquareWave};
 use procedure::{Reason, Refusal};
 
 /// What a client leaves in `places`: the first hold what it put.
@@ -19,13 +19,21 @@ fn count_into_places<'p>(numbers: &[i32], places: &'p mut [i32], limit: u16) -> 
 /// A limit, and what the client counts up to it where five numbers wait.
 const COUNTS: [(u16, i32); 5] = [(0, 0), (1, 1), (4, 4), (5, 5), (65535, 5)];
 
+fn wave(amplitude: i32, half_period: u32, count: u32) -> SquareWave {
+    SquareWave {
+        amplitude,
+        half_period,
+        count,
+    }
+}
+
 #[test]
 fn client_at_both_ports(rt: HostRuntime) {
     for (limit, count) in COUNTS {
         let numbers = [5, 5, -5, -5, 5];
         let mut places = [7; 2];
         assert_eq!(rt; count_record(&numbers, limit), Some(count));
-        assert_eq!(rt; count_wave(5, 2, 5, limit), Ok(Some(count)));
+        assert_eq!(rt; count_wave(wave(5, 2, 5), limit), Ok(Some(count)));
         count_into_places(&numbers, &mut places, limit);
         assert_eq!(rt; places, [count, 7]);
     }
@@ -34,10 +42,10 @@ fn client_at_both_ports(rt: HostRuntime) {
 #[test]
 fn front_of_a_wave(rt: HostRuntime) {
     let mut numbers = [0; 7];
-    assert_eq!(rt; read_wave(5, 2, 5, &mut numbers), Ok(5));
+    assert_eq!(rt; read_wave(wave(5, 2, 5), &mut numbers), Ok(5));
     assert_eq!(rt; numbers, [5, 5, -5, -5, 5, 0, 0]);
     assert_eq!(rt;
-        read_wave(8_388_607, 10_000, 1_000_000, &mut numbers),
+        read_wave(wave(8_388_607, 10_000, 1_000_000), &mut numbers),
         Ok(1_000_000)
     );
     assert_eq!(rt; numbers, [8_388_607; 7]);
@@ -59,7 +67,10 @@ fn limits_out_of_range(rt: HostRuntime) {
         node: 0,
     };
     for (amplitude, half_period, count) in OUT_OF_RANGE {
-        assert_eq!(rt; count_wave(amplitude, half_period, count, 1), Err(unset));
+        assert_eq!(rt;
+            count_wave(wave(amplitude, half_period, count), 1),
+            Err(unset)
+        );
     }
     assert_eq!(rt; unset.reason.number(), 16);
 }

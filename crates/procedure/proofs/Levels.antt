@@ -1,9 +1,9 @@
 -- The level of a node is one more than, or the same as, the level of its namer.
 use Rattle.std.proofs.Common.{◌≡◌, ℕ, zero, suc, ◌+◌, ◌^◌, ◌<◌, ◌≤◌, Bool, true, false, ◌⊎◌, List, length, get_or, set, sym, refl, ap, ◌∙◌, subst, inl, inr, arith}
 use Rattle.std.proofs.lemmas.List.{get_or-set_same, get_or-set_other}
-use Rattle.std.proofs.lemmas.Bool.{cases_eq}
+use Rattle.std.proofs.lemmas.Bool.{cases_eq, false≢true}
 use Rattle.procedure.specs.declared.layout.Role.{Role}
-use Rattle.procedure.specs.declared.layout.Role.TheVariants.{Unused, Operand, Root, Declarations, Locals, Statements, Alternative, Following}
+use Rattle.procedure.specs.declared.layout.Role.TheVariants.{Operand, Root, Declarations, Locals, Statements, Alternative, Following}
 use Rattle.procedure.specs.declared.naming.Naming.{Naming}
 use Rattle.procedure.specs.declared.naming.Naming.TheVariants.{Never, Once, Often}
 use Rattle.procedure.specs.Level.{level, level_by, level_within}
@@ -15,7 +15,6 @@ use Rattle.procedure.proofs.Obeys.{Placed, namer-placed}
 
 -- roles by which a level goes on from the namer's
 abbrev pub climbs : Role → Bool
-climbs Unused = false
 climbs Operand = true
 climbs Root = false
 climbs Declarations = false
@@ -28,7 +27,6 @@ climbs Following = true
 pub level_from : (s : Naming) (up on : ℕ → ℕ) → ((m : ℕ) (r : Role) → s ≡ Once m r → climbs r ≡ true → up m ≡ on m) → level_by up s ≡ level_by on s
 level_from Never up on h = refl
 level_from Often up on h = refl
-level_from (Once m Unused) up on h = refl
 level_from (Once m Operand) up on h = ap suc (h m Operand refl refl)
 level_from (Once m Root) up on h = refl
 level_from (Once m Declarations) up on h = refl
@@ -46,20 +44,19 @@ Closer false false m n = m < n
 
 closer_both : (a b : Bool) (m n : ℕ) → a ≡ true → b ≡ true → n < m → Closer a b m n
 closer_both true true m n p q h = h
-closer_both true false m n p q h = absurd (let z : ◌≡◌ {A = ℕ} 0 1 = cc in omega arith)
-closer_both false b m n p q h = absurd (let z : ◌≡◌ {A = ℕ} 0 1 = cc in omega arith)
+closer_both true false m n p q h = absurd (false≢true q)
+closer_both false b m n p q h = absurd (false≢true p)
 
 closer_none : (a b : Bool) (m n : ℕ) → a ≡ false → b ≡ false → m < n → Closer a b m n
 closer_none false false m n p q h = h
-closer_none false true m n p q h = absurd (let z : ◌≡◌ {A = ℕ} 0 1 = cc in omega arith)
-closer_none true b m n p q h = absurd (let z : ◌≡◌ {A = ℕ} 0 1 = cc in omega arith)
+closer_none false true m n p q h = absurd (false≢true (sym q))
+closer_none true b m n p q h = absurd (false≢true (sym p))
 
 placed_closer : (r : Role) (a b : Bool) (m n : ℕ) → climbs r ≡ true → Placed r a b m n → Closer a b m n
-placed_closer Unused a b m n c p = absurd p
 placed_closer Operand a b m n c p = closer_both a b m n p.0 p.1 p.2
-placed_closer Root a b m n c p = absurd (let z : ◌≡◌ {A = ℕ} 0 1 = cc in omega arith)
-placed_closer Declarations a b m n c p = absurd (let z : ◌≡◌ {A = ℕ} 0 1 = cc in omega arith)
-placed_closer Locals a b m n c p = absurd (let z : ◌≡◌ {A = ℕ} 0 1 = cc in omega arith)
+placed_closer Root a b m n c p = absurd (false≢true c)
+placed_closer Declarations a b m n c p = absurd (false≢true c)
+placed_closer Locals a b m n c p = absurd (false≢true c)
 placed_closer Statements a b m n c p = closer_none a b m n p.0 p.1 p.2
 placed_closer Alternative a b m n c p = closer_none a b m n p.0 p.1 p.2
 placed_closer Following a b m n c p = closer_none a b m n p.0 p.1 p.2
@@ -117,7 +114,6 @@ level_law t w n l = level_law_of t w (length t) n refl l
 level_by_le : (s : Naming) (up : ℕ → ℕ) (k : ℕ) → ((m : ℕ) → up m ≤ k) → level_by up s ≤ suc k
 level_by_le Never up k h = omega arith
 level_by_le Often up k h = omega arith
-level_by_le (Once m Unused) up k h = omega arith
 level_by_le (Once m Operand) up k h = omega (arith, h m)
 level_by_le (Once m Root) up k h = omega arith
 level_by_le (Once m Declarations) up k h = omega arith
@@ -147,7 +143,7 @@ noted_level t w few levels s r n l e exact known =
     exact (omega (arith, q, level_le t n)) ∙ q
 
 closer_plain : (a b : Bool) (m n : ℕ) → b ≡ false → Closer a b m n → (a ≡ false) × (m < n)
-closer_plain true true m n e c = absurd (let z : ◌≡◌ {A = ℕ} 0 1 = cc in omega arith)
+closer_plain true true m n e c = absurd (false≢true (sym e))
 closer_plain true false m n e c = absurd c
 closer_plain false true m n e c = absurd c
 closer_plain false false m n e c = (refl, c)

@@ -3,4 +3,5 @@ pub mod Obeys
 pub mod Levels
 mod Trees
 mod Lowest
+mod Turns
 pub mod Verdicts

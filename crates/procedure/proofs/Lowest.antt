@@ -1,6 +1,7 @@
 -- The lowest node at which a rule is broken.
 use Rattle.std.proofs.Common.{◌≡◌, ℕ, zero, suc, ◌+◌, ◌<◌, Some, None, Option, sym, refl, ap, ◌∙◌, inl, inr, add-one, arith}
 use Rattle.std.proofs.lemmas.Bool.{cases_eq}
+use Rattle.std.proofs.lemmas.Option.{none-some}
 use Rattle.std.specs.Option.{option_or}
 use Rattle.procedure.specs.declared.form.FormFault.{FormFault}
 use Rattle.procedure.specs.declared.form.FormFault.TheVariants.{Broken}
@@ -19,8 +20,8 @@ gathered broken n found next o p q e =
 
 both_none : (n : ℕ) (found : Option FormFault) (o : Option Rule) → option_or found (fault_at n o) ≡ None → (found ≡ None) × (o ≡ None)
 both_none n None None e = (refl, refl)
-both_none n None (Some rule) e = absurd (let z : ◌≡◌ {A = ℕ} 0 1 = cc in omega arith)
-both_none n (Some f) o e = absurd (let z : ◌≡◌ {A = ℕ} 0 1 = cc in omega arith)
+both_none n None (Some rule) e = absurd (none-some (Broken rule n) (sym e))
+both_none n (Some f) o e = absurd (none-some f (sym e))
 
 -- where no lowest is found, none is broken
 pub none_broken : (broken : ℕ → Option Rule) (k : ℕ) → lowest broken k ≡ None → (i : ℕ) → i < k → broken i ≡ None
@@ -54,7 +55,7 @@ found_by : (broken : ℕ → Option Rule) (k : ℕ) (e : FormFault) (found : Opt
 found_by broken k e (Some d) o p q before h =
     let s : d ≡ e = cc in
     found_longer broken k e (before e (p ∙ ap (λ x. Some x) s))
-found_by broken k e None None p q before h = absurd (let z : ◌≡◌ {A = ℕ} 0 1 = cc in omega arith)
+found_by broken k e None None p q before h = absurd (none-some e h)
 found_by broken k e None (Some rule) p q before h = record {
   rule = rule;
   at = k;
@@ -65,5 +66,5 @@ found_by broken k e None (Some rule) p q before h = record {
 }
 
 pub lowest_found : (broken : ℕ → Option Rule) (k : ℕ) (e : FormFault) → lowest broken k ≡ Some e → Found broken k e
-lowest_found broken zero e h = absurd (let z : ◌≡◌ {A = ℕ} 0 1 = cc in omega arith)
+lowest_found broken zero e h = absurd (none-some e h)
 lowest_found broken (suc k) e h = found_by broken k e (lowest broken k) (broken k) refl refl (lowest_found broken k) h

@@ -1,7 +1,8 @@
 -- A table that breaks no rule is a tree.
 use Rattle.std.proofs.Common.{◌≡◌, ℕ, zero, suc, ◌+◌, ◌<◌, ◌≤◌, Bool, true, false, ◌⊎◌, length, sym, refl, ◌∙◌, inl, inr, arith}
+use Rattle.std.proofs.lemmas.Bool.{false≢true}
 use Rattle.procedure.specs.declared.layout.Role.{Role}
-use Rattle.procedure.specs.declared.layout.Role.TheVariants.{Unused, Operand, Root, Declarations, Locals, Statements, Alternative, Following}
+use Rattle.procedure.specs.declared.layout.Role.TheVariants.{Operand, Root, Declarations, Locals, Statements, Alternative, Following}
 use Rattle.procedure.specs.declared.naming.Naming.{Naming}
 use Rattle.procedure.specs.declared.naming.Naming.TheVariants.{Never, Once, Often}
 use Rattle.procedure.specs.Naming.{naming, is_once}
@@ -12,9 +13,9 @@ use Rattle.procedure.proofs.Namings.{named_by, namer-within, named_only_by}
 use Rattle.procedure.proofs.Obeys.{holds, Placed, namer-placed}
 
 once_is : (s : Naming) → is_once s ≡ true → (m : ℕ) × ((r : Role) × (s ≡ Once m r))
-once_is Never e = absurd (let z : ◌≡◌ {A = ℕ} 0 1 = cc in omega arith)
+once_is Never e = absurd (false≢true e)
 once_is (Once m r) e = (m, (r, refl))
-once_is Often e = absurd (let z : ◌≡◌ {A = ℕ} 0 1 = cc in omega arith)
+once_is Often e = absurd (false≢true e)
 
 once_of : (n : ℕ) (s : Naming) → 0 < n → named_once n s ≡ true → is_once s ≡ true
 once_of n s p e = grind (arith, e)
@@ -31,9 +32,8 @@ only_namer t w n k m l p q =
     (named_only_by t n o.0 k o.1.0 o.1.1 p).0 ∙ sym (named_only_by t n o.0 m o.1.0 o.1.1 q).0
 
 placed_plain : (r : Role) (a b : Bool) (m n : ℕ) → b ≡ false → Placed r a b m n → (a ≡ false) × (m < n)
-placed_plain Unused a b m n e p = absurd p
-placed_plain Operand a b m n e p = absurd (let z : ◌≡◌ {A = Bool} true false = sym p.1 ∙ e in let o : ◌≡◌ {A = ℕ} 0 1 = cc in omega arith)
-placed_plain Root a b m n e p = absurd (let z : ◌≡◌ {A = Bool} true false = sym p.1 ∙ e in let o : ◌≡◌ {A = ℕ} 0 1 = cc in omega arith)
+placed_plain Operand a b m n e p = absurd (false≢true (sym e ∙ p.1))
+placed_plain Root a b m n e p = absurd (false≢true (sym e ∙ p.1))
 placed_plain Declarations a b m n e p = (p.0, p.2)
 placed_plain Locals a b m n e p = (p.0, p.2)
 placed_plain Statements a b m n e p = (p.0, p.2)
@@ -41,7 +41,6 @@ placed_plain Alternative a b m n e p = (p.0, p.2)
 placed_plain Following a b m n e p = (p.0, p.2)
 
 placed_expression : (r : Role) (a b : Bool) (m n : ℕ) → Placed r a b m n → ((a ≡ true) × (n < m)) ⊎ (a ≡ false)
-placed_expression Unused a b m n p = absurd p
 placed_expression Operand a b m n p = inl (p.0, p.2)
 placed_expression Root a b m n p = inr p.0
 placed_expression Declarations a b m n p = inr p.0

@@ -10,38 +10,38 @@ use Rattle.procedure.specs.declared.kind.ExpressionKind.{ExpressionKind}
 use Rattle.procedure.specs.declared.kind.ExpressionKind.TheVariants.{Numeral, Name, Unary, Binary}
 use Rattle.procedure.specs.declared.layout.Layout.{Layout}
 use Rattle.procedure.specs.declared.layout.Role.{Role}
-use Rattle.procedure.specs.declared.layout.Role.TheVariants.{Unused, Operand, Root, Declarations, Locals, Statements, Alternative, Following}
+use Rattle.procedure.specs.declared.layout.Role.TheVariants.{Operand, Root, Declarations, Locals, Statements, Alternative, Following}
 use Rattle.procedure.specs.declared.layout.Number.{Number}
-use Rattle.procedure.specs.declared.layout.Number.TheVariants.{Unused as Zero, Mark, Numeral as Value, Bound, UnaryOperator, BinaryOperator}
+use Rattle.procedure.specs.declared.layout.Number.TheVariants.{Mark, Numeral as Value, Bound, UnaryOperator, BinaryOperator}
 
--- whether name is used, what lo and hi hold, and what a, b, c and next name
-abbrev pub fields : Bool → Number → Number → Role → Role → Role → Role → Layout
+-- whether name is used, what lo and hi hold, and what a, b, c and next name: None where the field is not used
+abbrev pub fields : Bool → Option Number → Option Number → Option Role → Option Role → Option Role → Option Role → Layout
 fields named lo hi a b c next = record { name = named; lo = lo; hi = hi; a = a; b = b; c = c; next = next }
 
 abbrev pub declaration_layout : DeclarationKind → Layout
-declaration_layout Parameter = fields true Mark Zero Unused Unused Unused Declarations
-declaration_layout Variable = fields true Mark Zero Root Unused Unused Locals
-declaration_layout Constant = fields true Mark Zero Root Unused Unused Locals
+declaration_layout Parameter = fields true (Some Mark) None None None None (Some Declarations)
+declaration_layout Variable = fields true (Some Mark) None (Some Root) None None (Some Locals)
+declaration_layout Constant = fields true (Some Mark) None (Some Root) None None (Some Locals)
 
 abbrev pub statement_layout : StatementKind → Layout
-statement_layout Null = fields false Zero Zero Unused Unused Unused Following
-statement_layout Assignment = fields true Zero Zero Root Unused Unused Following
-statement_layout If = fields false Zero Zero Root Statements Alternative Following
-statement_layout For = fields true Bound Bound Statements Unused Unused Following
-statement_layout Block = fields false Zero Zero Locals Statements Unused Following
-statement_layout Get = fields true Zero Zero Unused Unused Unused Following
-statement_layout Put = fields false Zero Zero Root Unused Unused Following
+statement_layout Null = fields false None None None None None (Some Following)
+statement_layout Assignment = fields true None None (Some Root) None None (Some Following)
+statement_layout If = fields false None None (Some Root) (Some Statements) (Some Alternative) (Some Following)
+statement_layout For = fields true (Some Bound) (Some Bound) (Some Statements) None None (Some Following)
+statement_layout Block = fields false None None (Some Locals) (Some Statements) None (Some Following)
+statement_layout Get = fields true None None None None None (Some Following)
+statement_layout Put = fields false None None (Some Root) None None (Some Following)
 
 abbrev pub expression_layout : ExpressionKind → Layout
-expression_layout Numeral = fields false Value Zero Unused Unused Unused Unused
-expression_layout Name = fields true Zero Zero Unused Unused Unused Unused
-expression_layout Unary = fields false UnaryOperator Zero Operand Unused Unused Unused
-expression_layout Binary = fields false BinaryOperator Zero Operand Operand Unused Unused
+expression_layout Numeral = fields false (Some Value) None None None None None
+expression_layout Name = fields true None None None None None None
+expression_layout Unary = fields false (Some UnaryOperator) None (Some Operand) None None None
+expression_layout Binary = fields false (Some BinaryOperator) None (Some Operand) (Some Operand) None None
 
 -- a node of no listed kind uses no field
 abbrev pub layout : Option Kind → Layout
-layout None = fields false Zero Zero Unused Unused Unused Unused
-layout (Some Procedure) = fields true Zero Zero Declarations Statements Unused Unused
+layout None = fields false None None None None None None
+layout (Some Procedure) = fields true None None (Some Declarations) (Some Statements) None None
 layout (Some (Declaration k)) = declaration_layout k
 layout (Some (Statement k)) = statement_layout k
 layout (Some (Expression k)) = expression_layout k

@@ -1,6 +1,6 @@
 -- The level of a node. Assumes nothing.
 use Rattle.std.specs.Prelude.{ℕ, zero, suc, length}
-use Rattle.procedure.specs.declared.layout.Role.TheVariants.{Unused, Operand, Root, Declarations, Locals, Statements, Alternative, Following}
+use Rattle.procedure.specs.declared.layout.Role.TheVariants.{Operand, Root, Declarations, Locals, Statements, Alternative, Following}
 use Rattle.procedure.specs.declared.naming.Naming.{Naming}
 use Rattle.procedure.specs.declared.naming.Naming.TheVariants.{Never, Once, Often}
 use Rattle.procedure.specs.Naming.{naming}
@@ -9,7 +9,6 @@ use Rattle.procedure.specs.Table.{Table}
 -- the level of a node by how it is named, where up gives the level of the node naming it
 abbrev pub level_by : (ℕ → ℕ) → Naming → ℕ
 level_by up Never = 0
-level_by up (Once m Unused) = 0
 level_by up (Once m Operand) = suc (up m)
 level_by up (Once m Root) = 1
 level_by up (Once m Declarations) = 0

@@ -1,32 +1,22 @@
 -- How the nodes of a table are named by one another. Assumes nothing.
-use Rattle.std.specs.Prelude.{ℕ, zero, suc, ◌+◌, Bool, true, false, cond, ◌&&◌, List, [], ◌∷◌, ◌==◌}
+use Rattle.std.specs.Prelude.{ℕ, zero, suc, ◌+◌, Bool, true, false, cond, List, [], ◌∷◌, Some, None, Option, ◌==◌}
 use Rattle.procedure.specs.declared.layout.Layout.{Layout}
 use Rattle.procedure.specs.declared.layout.Role.{Role}
-use Rattle.procedure.specs.declared.layout.Role.TheVariants.{Unused, Operand, Root, Declarations, Locals, Statements, Alternative, Following}
 use Rattle.procedure.specs.declared.naming.Naming.{Naming}
 use Rattle.procedure.specs.declared.naming.Naming.TheVariants.{Never, Once, Often}
 use Rattle.procedure.specs.declared.node.Node.{Node}
 use Rattle.procedure.specs.Table.{Table, layout_of}
-
-abbrev pub is_used : Role → Bool
-is_used Unused = false
-is_used Operand = true
-is_used Root = true
-is_used Declarations = true
-is_used Locals = true
-is_used Statements = true
-is_used Alternative = true
-is_used Following = true
 
 abbrev pub once_more : ℕ → Role → Naming → Naming
 once_more m role Never = Once m role
 once_more m role (Once k r) = Often
 once_more m role Often = Often
 
--- how n is named, after a reference of node m to v
-abbrev pub after_reference : ℕ → ℕ → Role → ℕ → Naming → Naming
-after_reference n m role zero s = s
-after_reference n m role (suc v) s = cond (is_used role && suc v == n) (once_more m role s) s
+-- how n is named, after a reference of node m to v, which names nothing where it is not used
+abbrev pub after_reference : ℕ → ℕ → Option Role → ℕ → Naming → Naming
+after_reference n m None v s = s
+after_reference n m (Some role) zero s = s
+after_reference n m (Some role) (suc v) s = cond (suc v == n) (once_more m role s) s
 
 -- and after all references of node m, which is x and has the layout l
 abbrev pub after_node : ℕ → ℕ → Layout → Node → Naming → Naming

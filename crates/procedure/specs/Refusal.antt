@@ -28,6 +28,10 @@ told Over = record { number = 14; word = codes "over"; sentence = codes "the run
 told Absent = record { number = 15; word = codes "absent"; sentence = codes "there is no such row" }
 told Unset = record { number = 16; word = codes "unset"; sentence = codes "a limit of the calibrator is out of its range" }
 
+-- the refusal for a reason, about a node
+abbrev pub refusal_at : Reason → ℕ → Refusal
+refusal_at reason n = record { reason = reason; node = n }
+
 -- a refusal as it is printed
 abbrev pub refusal_text : Refusal → List ℕ
 refusal_text r =

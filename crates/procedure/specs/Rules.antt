@@ -2,9 +2,9 @@
 use Rattle.std.specs.Prelude.{◌≡◌, ℕ, ◌<◌, Bool, true, false, cond, not, ◌&&◌, ◌||◌, length, ℤ, pos, negsuc, is_some, Some, None, Option, ◌==◌, nat_le, nat_lt}
 use Rattle.procedure.specs.declared.layout.Layout.{Layout}
 use Rattle.procedure.specs.declared.layout.Role.{Role}
-use Rattle.procedure.specs.declared.layout.Role.TheVariants.{Unused, Operand, Root, Declarations, Locals, Statements, Alternative, Following}
+use Rattle.procedure.specs.declared.layout.Role.TheVariants.{Operand, Root, Declarations, Locals, Statements, Alternative, Following}
 use Rattle.procedure.specs.declared.layout.Number.{Number}
-use Rattle.procedure.specs.declared.layout.Number.TheVariants.{Unused as Zero, Mark, Numeral, Bound, UnaryOperator, BinaryOperator}
+use Rattle.procedure.specs.declared.layout.Number.TheVariants.{Mark, Numeral, Bound, UnaryOperator, BinaryOperator}
 use Rattle.procedure.specs.declared.naming.Naming.{Naming}
 use Rattle.procedure.specs.declared.node.Node.{Node}
 use Rattle.procedure.specs.declared.rules.Rule.{Rule}
@@ -31,21 +31,20 @@ abbrev pub name_holds : Bool → ℕ → Bool
 name_holds true n = is_name n
 name_holds false n = n == 0
 
--- a field lo or hi has a value of its sort
-abbrev pub number_holds : Number → ℤ → Bool
-number_holds Zero (pos n) = n == 0
-number_holds Zero (negsuc n) = false
-number_holds Mark (pos n) = is_name n
-number_holds Mark (negsuc n) = false
-number_holds Numeral (pos n) = true
-number_holds Numeral (negsuc n) = false
-number_holds Bound z = true
-number_holds UnaryOperator z = is_some (unary_operator_of z)
-number_holds BinaryOperator z = is_some (binary_operator_of z)
+-- a field lo or hi: a value of its sort where it is used, else 0
+abbrev pub number_holds : Option Number → ℤ → Bool
+number_holds None (pos n) = n == 0
+number_holds None (negsuc n) = false
+number_holds (Some Mark) (pos n) = is_name n
+number_holds (Some Mark) (negsuc n) = false
+number_holds (Some Numeral) (pos n) = true
+number_holds (Some Numeral) (negsuc n) = false
+number_holds (Some Bound) z = true
+number_holds (Some UnaryOperator) z = is_some (unary_operator_of z)
+number_holds (Some BinaryOperator) z = is_some (binary_operator_of z)
 
 -- a reference names a node of its sort, or nothing where it may
 abbrev pub fits : Table → Role → ℕ → Bool
-fits t Unused m = m == 0
 fits t Operand m = is_expression (part t m)
 fits t Root m = is_expression (part t m)
 fits t Declarations m = m == 0 || is_declaration (part t m)
@@ -54,11 +53,16 @@ fits t Statements m = is_statement (part t m)
 fits t Alternative m = m == 0 || is_statement (part t m)
 fits t Following m = m == 0 || is_statement (part t m)
 
+-- a reference: a node of its sort where it is used, else 0
+abbrev pub part_holds : Table → Option Role → ℕ → Bool
+part_holds t None m = m == 0
+part_holds t (Some role) m = fits t role m
+
 abbrev pub values_hold : Layout → Node → Bool
 values_hold l x = name_holds l.name x.name && (number_holds l.lo x.lo && number_holds l.hi x.hi)
 
 abbrev pub parts_fit : Table → Layout → Node → Bool
-parts_fit t l x = fits t l.a x.a && (fits t l.b x.b && (fits t l.c x.c && fits t l.next x.next))
+parts_fit t l x = part_holds t l.a x.a && (part_holds t l.b x.b && (part_holds t l.c x.c && part_holds t l.next x.next))
 
 -- Each field has a value of its sort.
 abbrev pub sorted : Table → Node → Bool
@@ -66,7 +70,6 @@ sorted t x = values_hold (layout_of x) x && parts_fit t (layout_of x) x
 
 -- an operand m has a smaller number than its operator n; what else n names has a greater one
 abbrev pub in_order : ℕ → Role → ℕ → Bool
-in_order n Unused m = true
 in_order n Operand m = nat_lt m n
 in_order n Root m = nat_lt n m
 in_order n Declarations m = m == 0 || nat_lt n m
@@ -75,8 +78,12 @@ in_order n Statements m = nat_lt n m
 in_order n Alternative m = m == 0 || nat_lt n m
 in_order n Following m = m == 0 || nat_lt n m
 
+abbrev pub part_in_order : ℕ → Option Role → ℕ → Bool
+part_in_order n None m = true
+part_in_order n (Some role) m = in_order n role m
+
 abbrev pub parts_in_order : ℕ → Layout → Node → Bool
-parts_in_order n l x = in_order n l.a x.a && (in_order n l.b x.b && (in_order n l.c x.c && in_order n l.next x.next))
+parts_in_order n l x = part_in_order n l.a x.a && (part_in_order n l.b x.b && (part_in_order n l.c x.c && part_in_order n l.next x.next))
 
 -- Operands have smaller numbers than their operator; all other parts, and next, have greater numbers than the node naming them.
 abbrev pub ordered : ℕ → Node → Bool

@@ -1,20 +1,18 @@
 -- A table as a tree: who names whom, and what is reached. Assumes nothing.
-use Rattle.std.specs.Prelude.{◌≡◌, ℕ, ◌<◌, true, length}
+use Rattle.std.specs.Prelude.{◌≡◌, ℕ, ◌<◌, length, Some}
 use Rattle.procedure.specs.declared.layout.Role.{Role}
-use Rattle.procedure.specs.Naming.{is_used}
 use Rattle.procedure.specs.Table.{Table, node, layout_at}
 
--- one of the references of node m has the role r and holds n
+-- one of the references of node m is used in the role r and holds n
 pub data Refers (t : Table) (m : ℕ) (r : Role) (n : ℕ) : Type 0 where
-  by_a : (layout_at t m).a ≡ r → (node t m).a ≡ n → Refers t m r n
-  by_b : (layout_at t m).b ≡ r → (node t m).b ≡ n → Refers t m r n
-  by_c : (layout_at t m).c ≡ r → (node t m).c ≡ n → Refers t m r n
-  by_next : (layout_at t m).next ≡ r → (node t m).next ≡ n → Refers t m r n
+  by_a : (layout_at t m).a ≡ Some r → (node t m).a ≡ n → Refers t m r n
+  by_b : (layout_at t m).b ≡ Some r → (node t m).b ≡ n → Refers t m r n
+  by_c : (layout_at t m).c ≡ Some r → (node t m).c ≡ n → Refers t m r n
+  by_next : (layout_at t m).next ≡ Some r → (node t m).next ≡ n → Refers t m r n
 
--- node m names node n: a reference of m that is in use holds n, which is not 0
+-- node m names node n: a reference of m that is used holds n, which is not 0
 pub record Names (t : Table) (m n : ℕ) : Type 0 where
   pub role : Role
-  pub used : is_used role ≡ true
   pub part : 0 < n
   pub refers : Refers t m role n
 

@@ -1,16 +1,13 @@
 //! The form test.
-ghost use Rattle.std.specs.Prelude.{◌≡◌, ℕ, ◌<◌, ◌≤◌, length, MatchResult, slice_index, slice_index_or};
+ghost use Rattle.std.specs.Prelude.{◌≡◌, ℕ, ◌<◌, length, MatchResult, slice_index};
 ghost use Rattle.std.specs.Option.{option_or};
 ghost use Rattle.procedure.specs.Form.{fault_at, lowest, deep_rule, too_deep, form_fault, tested, refusal_of};
 ghost use Rattle.procedure.specs.Formed.{Formed, Deserved};
 ghost use Rattle.procedure.specs.Level.{level};
-ghost use Rattle.procedure.specs.Naming.{naming};
 ghost use Rattle.procedure.specs.Rules.{broken_rule};
-ghost use Rattle.procedure.specs.declared.naming.Naming.TheVariants.{Never};
 
-use crate::level::measure_levels;
 use crate::limits::{MAX_LEVELS, MAX_NODES};
-use crate::naming::{Naming, count_namings};
+use crate::named_table::NamedTable;
 use crate::node::Node;
 use crate::refusal::{Reason, Refusal};
 use crate::rules::{Rule, broken_rule};
@@ -29,14 +26,8 @@ impl From<FormFault> for Refusal {
 
     fn from(fault: FormFault) -> Refusal {
         match fault {
-            FormFault::Bulky => Refusal {
-                reason: Reason::Bulky,
-                node: 0,
-            },
-            FormFault::Broken(_, node) => Refusal {
-                reason: Reason::Misshapen,
-                node,
-            },
+            FormFault::Bulky => Reason::Bulky.at(0),
+            FormFault::Broken(_, node) => Reason::Misshapen.at(node),
         }
     }
 }
@@ -46,48 +37,39 @@ fn gather(found: Option<FormFault>, n: usize, rule: Option<Rule>) -> Option<Form
     requires few { n < 1024 }
     ensures lower { result ≡ option_or found (fault_at n rule) }
 {
-    let fault = match rule {
-        Some(rule) => Some(FormFault::Broken(rule, n as u16)),
-        None => None,
-    };
-    found.or(fault)
-}
-
-/// The lowest node that breaks a rule on itself and what it names.
-fn lowest_broken(nodes: &[Node], namings: &[Naming; MAX_NODES]) -> Option<FormFault>
-    requires few { length nodes.now ≤ 1024 }
-    requires named { (n : ℕ) → n < 1024 → slice_index_or namings.now n Never ≡ naming nodes.now n }
-    ensures found { result ≡ lowest (broken_rule nodes.now) (length nodes.now) }
-{
-    let mut found = None;
-    for (n, node) in nodes.iter().enumerate() {
-        found = gather(found, n, broken_rule(nodes, n, node, namings[n]));
-    }
-    found
+    found.or(rule.map(|rule| FormFault::Broken(rule, n as u16)))
 }
 
 /// The rule that a node on this level breaks if it lies too deep.
 fn deep_rule(level: u16) -> Option<Rule>
     ensures told { result ≡ deep_rule level }
 {
-    if level <= MAX_LEVELS {
-        None
-    } else {
-        Some(Rule::Shallow)
-    }
+    (level > MAX_LEVELS).then_some(Rule::Shallow)
 }
 
-/// The lowest node that lies too deep.
-fn lowest_too_deep(nodes: &[Node], levels: &[u16; MAX_NODES]) -> Option<FormFault>
-    requires few { length nodes.now ≤ 1024 }
-    requires measured { (n : ℕ) → n < length nodes.now → slice_index levels.now n ≡ level nodes.now n }
-    ensures found { result ≡ lowest (too_deep nodes.now) (length nodes.now) }
-{
-    let mut found = None;
-    for n in 0..nodes.len() {
-        found = gather(found, n, deep_rule(levels[n]));
+impl NamedTable<'_> {
+    /// The lowest node that breaks a rule on itself and what it names.
+    fn lowest_broken(&self) -> Option<FormFault>
+        ensures found { result ≡ lowest (broken_rule self.now.nodes.now) (length self.now.nodes.now) }
+    {
+        let mut found = None;
+        for (n, (node, naming)) in self.nodes.iter().zip(&self.namings).enumerate() {
+            found = gather(found, n, broken_rule(self.nodes, n, node, *naming));
+        }
+        found
     }
-    found
+
+    /// The lowest node that lies too deep. A loop beside the one above: nodes are asked there, and levels here.
+    fn lowest_too_deep(&self, levels: &[u16; MAX_NODES]) -> Option<FormFault>
+        requires measured { (n : ℕ) → n < length self.now.nodes.now → slice_index levels.now n ≡ level self.now.nodes.now n }
+        ensures found { result ≡ lowest (too_deep self.now.nodes.now) (length self.now.nodes.now) }
+    {
+        let mut found = None;
+        for (n, level) in levels[..self.nodes.len()].iter().enumerate() {
+            found = gather(found, n, deep_rule(*level));
+        }
+        found
+    }
 }
 
 /// What a table lacks of the form of a procedure: the rule that its lowest broken node breaks.
@@ -97,12 +79,11 @@ pub fn find_form_fault(nodes: &[Node]) -> Option<FormFault>
     if nodes.is_empty() || nodes.len() > MAX_NODES {
         return Some(FormFault::Bulky);
     }
-    let namings = count_namings(nodes);
-    if let Some(fault) = lowest_broken(nodes, &namings) {
+    let table = NamedTable::of(nodes);
+    if let Some(fault) = table.lowest_broken() {
         return Some(fault);
     }
-    let levels = measure_levels(nodes, &namings);
-    lowest_too_deep(nodes, &levels)
+    table.lowest_too_deep(&table.levels())
 }
 
 /// The form test: passed, or refused as bulky, or as misshapen at the lowest broken node.
@@ -110,6 +91,7 @@ pub fn test_form(nodes: &[Node]) -> Result<(), Refusal>
     ensures verdict { result ≡ tested nodes.now }
     ensures meaning { MatchResult result (λ _. Formed nodes.now) (Deserved nodes.now) }
 {
+    // What was searched for is the error here, so neither `?` nor `ok_or` fits.
     match find_form_fault(nodes) {
         None => Ok(()),
         Some(fault) => Err(fault.into()),

@@ -1,8 +1,11 @@
 //! What a node is, read out of the number in its field kind.
-ghost use Rattle.std.specs.Prelude.{◌≡◌};
+ghost use Rattle.std.specs.Prelude.{◌≡◌, Some, ok_or};
 ghost use Rattle.procedure.specs.Kind.{kind_of, kind_word};
 
-#[derive(Clone, Copy)]
+use crate::unlisted::Unlisted;
+use std::fmt;
+
+#[derive(Clone, Copy, PartialEq, Eq, Debug)]
 pub enum Kind {
     Procedure,
     Declaration(DeclarationKind),
@@ -10,14 +13,14 @@ pub enum Kind {
     Expression(ExpressionKind),
 }
 
-#[derive(Clone, Copy)]
+#[derive(Clone, Copy, PartialEq, Eq, Debug)]
 pub enum DeclarationKind {
     Parameter,
     Variable,
     Constant,
 }
 
-#[derive(Clone, Copy)]
+#[derive(Clone, Copy, PartialEq, Eq, Debug)]
 pub enum StatementKind {
     Null,
     Assignment,
@@ -28,7 +31,7 @@ pub enum StatementKind {
     Put,
 }
 
-#[derive(Clone, Copy)]
+#[derive(Clone, Copy, PartialEq, Eq, Debug)]
 pub enum ExpressionKind {
     Numeral,
     Name,
@@ -36,36 +39,40 @@ pub enum ExpressionKind {
     Binary,
 }
 
-impl Kind {
-    /// The kind of a number, where the number is listed.
-    pub fn of_number(number: u8) -> Option<Kind>
-        ensures listed { result ≡ kind_of number }
-    {
+/// The kind of a number.
+impl TryFrom<u8> for Kind {
+    type Error = Unlisted;
+
+    ghost try_from_gives = { λ number r. r ≡ ok_or (kind_of number) (record {}) };
+
+    fn try_from(number: u8) -> Result<Kind, Unlisted> {
         match number {
-            1 => Some(Kind::Expression(ExpressionKind::Numeral)),
-            2 => Some(Kind::Expression(ExpressionKind::Name)),
-            3 => Some(Kind::Expression(ExpressionKind::Unary)),
-            4 => Some(Kind::Expression(ExpressionKind::Binary)),
-            10 => Some(Kind::Declaration(DeclarationKind::Parameter)),
-            11 => Some(Kind::Declaration(DeclarationKind::Variable)),
-            12 => Some(Kind::Declaration(DeclarationKind::Constant)),
-            20 => Some(Kind::Statement(StatementKind::Null)),
-            21 => Some(Kind::Statement(StatementKind::Assignment)),
-            22 => Some(Kind::Statement(StatementKind::If)),
-            23 => Some(Kind::Statement(StatementKind::For)),
-            24 => Some(Kind::Statement(StatementKind::Block)),
-            25 => Some(Kind::Statement(StatementKind::Get)),
-            26 => Some(Kind::Statement(StatementKind::Put)),
-            30 => Some(Kind::Procedure),
-            _ => None,
+            1 => Ok(Kind::Expression(ExpressionKind::Numeral)),
+            2 => Ok(Kind::Expression(ExpressionKind::Name)),
+            3 => Ok(Kind::Expression(ExpressionKind::Unary)),
+            4 => Ok(Kind::Expression(ExpressionKind::Binary)),
+            10 => Ok(Kind::Declaration(DeclarationKind::Parameter)),
+            11 => Ok(Kind::Declaration(DeclarationKind::Variable)),
+            12 => Ok(Kind::Declaration(DeclarationKind::Constant)),
+            20 => Ok(Kind::Statement(StatementKind::Null)),
+            21 => Ok(Kind::Statement(StatementKind::Assignment)),
+            22 => Ok(Kind::Statement(StatementKind::If)),
+            23 => Ok(Kind::Statement(StatementKind::For)),
+            24 => Ok(Kind::Statement(StatementKind::Block)),
+            25 => Ok(Kind::Statement(StatementKind::Get)),
+            26 => Ok(Kind::Statement(StatementKind::Put)),
+            30 => Ok(Kind::Procedure),
+            _ => Err(Unlisted),
         }
     }
+}
 
-    /// The word for the kind.
-    pub fn word(self) -> &'static str
-        ensures worded { result.now ≡ kind_word self }
-    {
-        match self {
+/// The word for the kind.
+impl fmt::Display for Kind {
+    ghost output = { λ kind. Some (kind_word kind) };
+
+    fn fmt<W: fmt::Write>(&self, f: &mut fmt::Formatter<W>) -> fmt::Result {
+        f.write_str(match self {
             Kind::Procedure => "procedure",
             Kind::Declaration(DeclarationKind::Parameter) => "parameter",
             Kind::Declaration(DeclarationKind::Variable) => "variable",
@@ -81,6 +88,6 @@ impl Kind {
             Kind::Expression(ExpressionKind::Name) => "name",
             Kind::Expression(ExpressionKind::Unary) => "unary",
             Kind::Expression(ExpressionKind::Binary) => "binary",
-        }
+        })
     }
 }

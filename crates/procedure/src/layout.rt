@@ -5,10 +5,8 @@ ghost use Rattle.procedure.specs.Layout.{layout, declaration_layout, statement_l
 use crate::kind::{DeclarationKind, ExpressionKind, Kind, StatementKind};
 
 /// What a reference, one of the fields a, b, c and next, names.
-#[derive(Clone, Copy)]
+#[derive(Clone, Copy, PartialEq, Eq, Debug)]
 pub enum Role {
-    /// The field is not used, and 0.
-    Unused,
     /// An operand: an expression with a smaller number.
     Operand,
     /// The root of an expression.
@@ -26,10 +24,8 @@ pub enum Role {
 }
 
 /// What one of the fields lo and hi holds.
-#[derive(Clone, Copy)]
+#[derive(Clone, Copy, PartialEq, Eq, Debug)]
 pub enum Number {
-    /// The field is not used, and 0.
-    Unused,
     /// A type mark, which is a name.
     Mark,
     /// The value of a numeral, from 0 up.
@@ -42,27 +38,17 @@ pub enum Number {
     BinaryOperator,
 }
 
-/// The use of each field of a node.
-#[derive(Clone, Copy)]
+/// The use of each field of a node. A field that is not used is 0.
+#[derive(Clone, Copy, PartialEq, Eq, Default, Debug)]
 pub struct Layout {
     pub name: bool,
-    pub lo: Number,
-    pub hi: Number,
-    pub a: Role,
-    pub b: Role,
-    pub c: Role,
-    pub next: Role,
+    pub lo: Option<Number>,
+    pub hi: Option<Number>,
+    pub a: Option<Role>,
+    pub b: Option<Role>,
+    pub c: Option<Role>,
+    pub next: Option<Role>,
 }
-
-const UNUSED: Layout = Layout {
-    name: false,
-    lo: Number::Unused,
-    hi: Number::Unused,
-    a: Role::Unused,
-    b: Role::Unused,
-    c: Role::Unused,
-    next: Role::Unused,
-};
 
 impl Layout {
     /// The layout of a kind. A node of no listed kind uses no field.
@@ -70,12 +56,12 @@ impl Layout {
         ensures laid { result ≡ layout kind }
     {
         match kind {
-            None => UNUSED,
+            None => Layout::default(),
             Some(Kind::Procedure) => Layout {
                 name: true,
-                a: Role::Declarations,
-                b: Role::Statements,
-                ..UNUSED
+                a: Some(Role::Declarations),
+                b: Some(Role::Statements),
+                ..Layout::default()
             },
             Some(Kind::Declaration(kind)) => Layout::of_declaration(kind),
             Some(Kind::Statement(kind)) => Layout::of_statement(kind),
@@ -88,18 +74,18 @@ impl Layout {
     {
         let object = Layout {
             name: true,
-            lo: Number::Mark,
-            ..UNUSED
+            lo: Some(Number::Mark),
+            ..Layout::default()
         };
         match kind {
             DeclarationKind::Parameter => Layout {
-                next: Role::Declarations,
+                next: Some(Role::Declarations),
                 ..object
             },
             DeclarationKind::Variable | DeclarationKind::Constant => {
                 Layout {
-                    a: Role::Root,
-                    next: Role::Locals,
+                    a: Some(Role::Root),
+                    next: Some(Role::Locals),
                     ..object
                 }
             }
@@ -110,32 +96,32 @@ impl Layout {
         ensures laid { result ≡ statement_layout kind }
     {
         let statement = Layout {
-            next: Role::Following,
-            ..UNUSED
+            next: Some(Role::Following),
+            ..Layout::default()
         };
         match kind {
             StatementKind::Null => statement,
             StatementKind::Assignment => Layout {
                 name: true,
-                a: Role::Root,
+                a: Some(Role::Root),
                 ..statement
             },
             StatementKind::If => Layout {
-                a: Role::Root,
-                b: Role::Statements,
-                c: Role::Alternative,
+                a: Some(Role::Root),
+                b: Some(Role::Statements),
+                c: Some(Role::Alternative),
                 ..statement
             },
             StatementKind::For => Layout {
                 name: true,
-                lo: Number::Bound,
-                hi: Number::Bound,
-                a: Role::Statements,
+                lo: Some(Number::Bound),
+                hi: Some(Number::Bound),
+                a: Some(Role::Statements),
                 ..statement
             },
             StatementKind::Block => Layout {
-                a: Role::Locals,
-                b: Role::Statements,
+                a: Some(Role::Locals),
+                b: Some(Role::Statements),
                 ..statement
             },
             StatementKind::Get => Layout {
@@ -143,7 +129,7 @@ impl Layout {
                 ..statement
             },
             StatementKind::Put => Layout {
-                a: Role::Root,
+                a: Some(Role::Root),
                 ..statement
             },
         }
@@ -154,23 +140,23 @@ impl Layout {
     {
         match kind {
             ExpressionKind::Numeral => Layout {
-                lo: Number::Numeral,
-                ..UNUSED
+                lo: Some(Number::Numeral),
+                ..Layout::default()
             },
             ExpressionKind::Name => Layout {
                 name: true,
-                ..UNUSED
+                ..Layout::default()
             },
             ExpressionKind::Unary => Layout {
-                lo: Number::UnaryOperator,
-                a: Role::Operand,
-                ..UNUSED
+                lo: Some(Number::UnaryOperator),
+                a: Some(Role::Operand),
+                ..Layout::default()
             },
             ExpressionKind::Binary => Layout {
-                lo: Number::BinaryOperator,
-                a: Role::Operand,
-                b: Role::Operand,
-                ..UNUSED
+                lo: Some(Number::BinaryOperator),
+                a: Some(Role::Operand),
+                b: Some(Role::Operand),
+                ..Layout::default()
             },
         }
     }

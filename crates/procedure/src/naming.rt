@@ -4,13 +4,12 @@ ghost use Rattle.procedure.specs.Naming.{naming, once_more, after_reference, aft
 ghost use Rattle.procedure.specs.Table.{layout_of};
 ghost use Rattle.procedure.specs.declared.naming.Naming.TheVariants.{Never};
 
-use crate::kind::Kind;
 use crate::layout::{Layout, Role};
 use crate::limits::MAX_NODES;
 use crate::node::Node;
 
 /// How often the references of a table name a node; if once, which node does, and as what.
-#[derive(Clone, Copy)]
+#[derive(Clone, Copy, PartialEq, Eq, Debug)]
 pub enum Naming {
     Never,
     Once(u16, Role),
@@ -24,17 +23,20 @@ impl Naming {
     {
         match self {
             Naming::Never => Naming::Once(by, role),
-            Naming::Once(_, _) | Naming::Often => Naming::Often,
+            Naming::Once(..) | Naming::Often => Naming::Often,
         }
     }
 }
 
-/// Notes a reference of node `by` to `target`.
-fn note_reference(namings: &mut [Naming], by: u16, role: Role, target: u16)
+/// Notes a reference of node `by` to `target`. By index: of a place got by `get_mut` it is not known which one was written.
+fn note_reference(namings: &mut [Naming], by: u16, role: Option<Role>, target: u16)
     ensures noted { (n : ℕ) → n < length namings.old → slice_index_or namings.new n Never ≡ after_reference n by role target (slice_index_or namings.old n Never) }
 {
     let place = target as usize;
-    if target != 0 && !matches!(role, Role::Unused) && place < namings.len() {
+    if let Some(role) = role
+        && target != 0
+        && place < namings.len()
+    {
         namings[place] = namings[place].once_more(by, role);
     }
 }
@@ -43,7 +45,7 @@ fn note_reference(namings: &mut [Naming], by: u16, role: Role, target: u16)
 fn note_node(namings: &mut [Naming], by: u16, node: &Node)
     ensures noted { (n : ℕ) → n < length namings.old → slice_index_or namings.new n Never ≡ after_node n by (layout_of node.now) node.now (slice_index_or namings.old n Never) }
 {
-    let layout = Layout::of(Kind::of_number(node.kind));
+    let layout = Layout::of(node.listed_kind());
     note_reference(namings, by, layout.a, node.a);
     note_reference(namings, by, layout.b, node.b);
     note_reference(namings, by, layout.c, node.c);

@@ -1,8 +1,10 @@
 //! Operators, read out of the number in the field lo.
-ghost use Rattle.std.specs.Prelude.{◌≡◌};
+ghost use Rattle.std.specs.Prelude.{◌≡◌, ok_or};
 ghost use Rattle.procedure.specs.Operator.{unary_operator_of, binary_operator_of};
 
-#[derive(Clone, Copy)]
+use crate::unlisted::Unlisted;
+
+#[derive(Clone, Copy, PartialEq, Eq, Debug)]
 pub enum UnaryOperator {
     Plus,
     Minus,
@@ -10,14 +12,14 @@ pub enum UnaryOperator {
     Not,
 }
 
-#[derive(Clone, Copy)]
+#[derive(Clone, Copy, PartialEq, Eq, Debug)]
 pub enum BinaryOperator {
     Arithmetic(ArithmeticOperator),
     Relational(RelationalOperator),
     Logical(LogicalOperator),
 }
 
-#[derive(Clone, Copy)]
+#[derive(Clone, Copy, PartialEq, Eq, Debug)]
 pub enum ArithmeticOperator {
     Add,
     Subtract,
@@ -27,7 +29,7 @@ pub enum ArithmeticOperator {
     Rem,
 }
 
-#[derive(Clone, Copy)]
+#[derive(Clone, Copy, PartialEq, Eq, Debug)]
 pub enum RelationalOperator {
     Equal,
     NotEqual,
@@ -37,50 +39,54 @@ pub enum RelationalOperator {
     GreaterOrEqual,
 }
 
-#[derive(Clone, Copy)]
+#[derive(Clone, Copy, PartialEq, Eq, Debug)]
 pub enum LogicalOperator {
     And,
     Or,
     Xor,
 }
 
-impl UnaryOperator {
-    /// The unary operator of a number, where the number is listed.
-    pub fn of_number(number: i32) -> Option<UnaryOperator>
-        ensures listed { result ≡ unary_operator_of number }
-    {
+/// The unary operator of a number.
+impl TryFrom<i32> for UnaryOperator {
+    type Error = Unlisted;
+
+    ghost try_from_gives = { λ number r. r ≡ ok_or (unary_operator_of number) (record {}) };
+
+    fn try_from(number: i32) -> Result<UnaryOperator, Unlisted> {
         match number {
-            1 => Some(UnaryOperator::Plus),
-            2 => Some(UnaryOperator::Minus),
-            3 => Some(UnaryOperator::Abs),
-            4 => Some(UnaryOperator::Not),
-            _ => None,
+            1 => Ok(UnaryOperator::Plus),
+            2 => Ok(UnaryOperator::Minus),
+            3 => Ok(UnaryOperator::Abs),
+            4 => Ok(UnaryOperator::Not),
+            _ => Err(Unlisted),
         }
     }
 }
 
-impl BinaryOperator {
-    /// The binary operator of a number, where the number is listed.
-    pub fn of_number(number: i32) -> Option<BinaryOperator>
-        ensures listed { result ≡ binary_operator_of number }
-    {
+/// The binary operator of a number.
+impl TryFrom<i32> for BinaryOperator {
+    type Error = Unlisted;
+
+    ghost try_from_gives = { λ number r. r ≡ ok_or (binary_operator_of number) (record {}) };
+
+    fn try_from(number: i32) -> Result<BinaryOperator, Unlisted> {
         match number {
-            11 => Some(BinaryOperator::Arithmetic(ArithmeticOperator::Add)),
-            12 => Some(BinaryOperator::Arithmetic(ArithmeticOperator::Subtract)),
-            13 => Some(BinaryOperator::Arithmetic(ArithmeticOperator::Multiply)),
-            14 => Some(BinaryOperator::Arithmetic(ArithmeticOperator::Divide)),
-            15 => Some(BinaryOperator::Arithmetic(ArithmeticOperator::Mod)),
-            16 => Some(BinaryOperator::Arithmetic(ArithmeticOperator::Rem)),
-            21 => Some(BinaryOperator::Relational(RelationalOperator::Equal)),
-            22 => Some(BinaryOperator::Relational(RelationalOperator::NotEqual)),
-            23 => Some(BinaryOperator::Relational(RelationalOperator::Less)),
-            24 => Some(BinaryOperator::Relational(RelationalOperator::LessOrEqual)),
-            25 => Some(BinaryOperator::Relational(RelationalOperator::Greater)),
-            26 => Some(BinaryOperator::Relational(RelationalOperator::GreaterOrEqual)),
-            31 => Some(BinaryOperator::Logical(LogicalOperator::And)),
-            32 => Some(BinaryOperator::Logical(LogicalOperator::Or)),
-            33 => Some(BinaryOperator::Logical(LogicalOperator::Xor)),
-            _ => None,
+            11 => Ok(BinaryOperator::Arithmetic(ArithmeticOperator::Add)),
+            12 => Ok(BinaryOperator::Arithmetic(ArithmeticOperator::Subtract)),
+            13 => Ok(BinaryOperator::Arithmetic(ArithmeticOperator::Multiply)),
+            14 => Ok(BinaryOperator::Arithmetic(ArithmeticOperator::Divide)),
+            15 => Ok(BinaryOperator::Arithmetic(ArithmeticOperator::Mod)),
+            16 => Ok(BinaryOperator::Arithmetic(ArithmeticOperator::Rem)),
+            21 => Ok(BinaryOperator::Relational(RelationalOperator::Equal)),
+            22 => Ok(BinaryOperator::Relational(RelationalOperator::NotEqual)),
+            23 => Ok(BinaryOperator::Relational(RelationalOperator::Less)),
+            24 => Ok(BinaryOperator::Relational(RelationalOperator::LessOrEqual)),
+            25 => Ok(BinaryOperator::Relational(RelationalOperator::Greater)),
+            26 => Ok(BinaryOperator::Relational(RelationalOperator::GreaterOrEqual)),
+            31 => Ok(BinaryOperator::Logical(LogicalOperator::And)),
+            32 => Ok(BinaryOperator::Logical(LogicalOperator::Or)),
+            33 => Ok(BinaryOperator::Logical(LogicalOperator::Xor)),
+            _ => Err(Unlisted),
         }
     }
 }

@@ -1,8 +1,9 @@
 //! Refusals: why a call was not taken, and at which node.
 ghost use Rattle.std.specs.Prelude.{◌≡◌, Some};
-ghost use Rattle.procedure.specs.Refusal.{told, refusal_text};
+ghost use Rattle.procedure.specs.Refusal.{told, refusal_at, refusal_text};
 ghost use Rattle.procedure.specs.Sequence.{want};
 
+use std::error::Error;
 use std::fmt;
 
 /// Why a call is refused.
@@ -51,30 +52,6 @@ impl Reason {
         }
     }
 
-    /// The word that stands for the reason.
-    pub fn word(self) -> &'static str
-        ensures worded { result.now ≡ (told self).word }
-    {
-        match self {
-            Reason::Bulky => "bulky",
-            Reason::Misshapen => "misshapen",
-            Reason::Taken => "taken",
-            Reason::Unmarked => "unmarked",
-            Reason::Unknown => "unknown",
-            Reason::Mismatched => "mismatched",
-            Reason::Fixed => "fixed",
-            Reason::Overlong => "overlong",
-            Reason::Cramped => "cramped",
-            Reason::Miscounted => "miscounted",
-            Reason::Unfit => "unfit",
-            Reason::Short => "short",
-            Reason::Overdrawn => "overdrawn",
-            Reason::Over => "over",
-            Reason::Absent => "absent",
-            Reason::Unset => "unset",
-        }
-    }
-
     /// What the reason means, in a sentence.
     pub fn sentence(self) -> &'static str
         ensures explained { result.now ≡ (told self).sentence }
@@ -99,6 +76,39 @@ impl Reason {
             Reason::Unset => "a limit of the calibrator is out of its range",
         }
     }
+
+    /// The refusal for this reason, about a node, or about none where it is 0.
+    pub fn at(self, node: u16) -> Refusal
+        ensures told { result ≡ refusal_at self node }
+    {
+        Refusal { reason: self, node }
+    }
+}
+
+/// The word that stands for the reason.
+impl fmt::Display for Reason {
+    ghost output = { λ x. Some (told x).word };
+
+    fn fmt<W: fmt::Write>(&self, f: &mut fmt::Formatter<W>) -> fmt::Result {
+        f.write_str(match self {
+            Reason::Bulky => "bulky",
+            Reason::Misshapen => "misshapen",
+            Reason::Taken => "taken",
+            Reason::Unmarked => "unmarked",
+            Reason::Unknown => "unknown",
+            Reason::Mismatched => "mismatched",
+            Reason::Fixed => "fixed",
+            Reason::Overlong => "overlong",
+            Reason::Cramped => "cramped",
+            Reason::Miscounted => "miscounted",
+            Reason::Unfit => "unfit",
+            Reason::Short => "short",
+            Reason::Overdrawn => "overdrawn",
+            Reason::Over => "over",
+            Reason::Absent => "absent",
+            Reason::Unset => "unset",
+        })
+    }
 }
 
 /// A call that was not taken: the reason, and the node that it is about, 0 where it is about none.
@@ -112,11 +122,7 @@ pub struct Refusal {
 pub fn demand(holds: bool, reason: Reason, node: u16) -> Result<(), Refusal>
     ensures wanted { result ≡ want holds reason node }
 {
-    if holds {
-        Ok(())
-    } else {
-        Err(Refusal { reason, node })
-    }
+    if holds { Ok(()) } else { Err(reason.at(node)) }
 }
 
 /// As `2 misshapen at node 7: ` and then the sentence.
@@ -124,10 +130,14 @@ impl fmt::Display for Refusal {
     ghost output = { λ x. Some (refusal_text x) };
 
     fn fmt<W: fmt::Write>(&self, f: &mut fmt::Formatter<W>) -> fmt::Result {
-        let number = self.reason.number();
-        let word = self.reason.word();
-        let node = self.node;
-        let sentence = self.reason.sentence();
-        write!(f, "{number} {word} at node {node}: {sentence}")
+        let Refusal { reason, node } = *self;
+        write!(
+            f,
+            "{} {reason} at node {node}: {}",
+            reason.number(),
+            reason.sentence()
+        )
     }
 }
+
+impl Error for Refusal {}

@@ -1,7 +1,7 @@
 //! The rules of the form that look at a node and what it names.
 ghost use Rattle.std.specs.Prelude.{◌≡◌, Some};
 ghost use Rattle.procedure.specs.RuleText.{rule_word, rule_sentence, rule_text};
-ghost use Rattle.procedure.specs.Rules.{rooted, name_holds, number_holds, values_hold, fits, parts_fit, sorted, in_order, ordered, named_once, broken_by};
+ghost use Rattle.procedure.specs.Rules.{rooted, name_holds, number_holds, values_hold, fits, part_holds, parts_fit, sorted, in_order, part_in_order, ordered, named_once, broken_by};
 
 use crate::kind::{DeclarationKind, Kind};
 use crate::layout::{Layout, Number, Role};
@@ -68,25 +68,21 @@ impl fmt::Display for Rule {
     ghost output = { λ x. Some (rule_text x) };
 
     fn fmt<W: fmt::Write>(&self, f: &mut fmt::Formatter<W>) -> fmt::Result {
-        let word = self.word();
-        let sentence = self.sentence();
-        write!(f, "{word}: {sentence}")
+        write!(f, "{}: {}", self.word(), self.sentence())
     }
 }
 
-impl Number {
-    /// Whether a field lo or hi has a value of its sort.
-    fn holds(self, value: i32) -> bool
-        ensures sorted { result ≡ number_holds self value }
-    {
-        match self {
-            Number::Unused => value == 0,
-            Number::Mark => 1 <= value && value <= LAST_NAME as i32,
-            Number::Numeral => 0 <= value,
-            Number::Bound => true,
-            Number::UnaryOperator => UnaryOperator::of_number(value).is_some(),
-            Number::BinaryOperator => BinaryOperator::of_number(value).is_some(),
-        }
+/// Whether a field lo or hi has a value of its sort where it is used, and 0 elsewhere.
+fn holds_number(number: Option<Number>, value: i32) -> bool
+    ensures sorted { result ≡ number_holds number value }
+{
+    match number {
+        None => value == 0,
+        Some(Number::Mark) => (1..=i32::from(LAST_NAME)).contains(&value),
+        Some(Number::Numeral) => 0 <= value,
+        Some(Number::Bound) => true,
+        Some(Number::UnaryOperator) => UnaryOperator::try_from(value).is_ok(),
+        Some(Number::BinaryOperator) => BinaryOperator::try_from(value).is_ok(),
     }
 }
 
@@ -95,7 +91,7 @@ fn holds_name(used: bool, name: u16) -> bool
     ensures sorted { result ≡ name_holds used name }
 {
     if used {
-        1 <= name && name <= LAST_NAME
+        (1..=LAST_NAME).contains(&name)
     } else {
         name == 0
     }
@@ -108,7 +104,6 @@ impl Role {
     {
         let kind = part_of(nodes, target);
         match self {
-            Role::Unused => target == 0,
             Role::Operand | Role::Root => matches!(kind, Some(Kind::Expression(_))),
             Role::Declarations => target == 0 || matches!(kind, Some(Kind::Declaration(_))),
             Role::Locals => {
@@ -133,7 +128,6 @@ impl Role {
     {
         let target = target as usize;
         match self {
-            Role::Unused => true,
             Role::Operand => target < n,
             Role::Root | Role::Statements => n < target,
             Role::Declarations | Role::Locals | Role::Alternative | Role::Following => {
@@ -143,11 +137,25 @@ impl Role {
     }
 }
 
+/// Whether a reference names a node of its sort where it is used, and is 0 elsewhere.
+fn holds_part(nodes: &[Node], role: Option<Role>, target: u16) -> bool
+    ensures sorted { result ≡ part_holds nodes.now role target }
+{
+    role.map_or(target == 0, |role| role.fits(nodes, target))
+}
+
+/// Whether a reference, where it is used, names a node on the right side of node `n`.
+fn is_part_in_order(n: usize, role: Option<Role>, target: u16) -> bool
+    ensures ordered { result ≡ part_in_order n role target }
+{
+    role.is_none_or(|role| role.is_in_order(n, target))
+}
+
 /// Whether node 0 is a procedure, and another is none.
 fn is_rooted(n: usize, node: &Node) -> bool
     ensures holds { result ≡ rooted n node.now }
 {
-    let is_procedure = matches!(Kind::of_number(node.kind), Some(Kind::Procedure));
+    let is_procedure = node.listed_kind() == Some(Kind::Procedure);
     if n == 0 { is_procedure } else { !is_procedure }
 }
 
@@ -155,24 +163,26 @@ fn is_rooted(n: usize, node: &Node) -> bool
 fn are_values_sorted(layout: Layout, node: &Node) -> bool
     ensures holds { result ≡ values_hold layout node.now }
 {
-    holds_name(layout.name, node.name) && layout.lo.holds(node.lo) && layout.hi.holds(node.hi)
+    holds_name(layout.name, node.name)
+        && holds_number(layout.lo, node.lo)
+        && holds_number(layout.hi, node.hi)
 }
 
 /// Whether the references have values of their sorts.
 fn are_parts_sorted(nodes: &[Node], layout: Layout, node: &Node) -> bool
     ensures holds { result ≡ parts_fit nodes.now layout node.now }
 {
-    layout.a.fits(nodes, node.a)
-        && layout.b.fits(nodes, node.b)
-        && layout.c.fits(nodes, node.c)
-        && layout.next.fits(nodes, node.next)
+    holds_part(nodes, layout.a, node.a)
+        && holds_part(nodes, layout.b, node.b)
+        && holds_part(nodes, layout.c, node.c)
+        && holds_part(nodes, layout.next, node.next)
 }
 
 /// Whether each field has a value of its sort.
 fn is_sorted(nodes: &[Node], node: &Node) -> bool
     ensures holds { result ≡ sorted nodes.now node.now }
 {
-    let layout = Layout::of(Kind::of_number(node.kind));
+    let layout = Layout::of(node.listed_kind());
     are_values_sorted(layout, node) && are_parts_sorted(nodes, layout, node)
 }
 
@@ -180,18 +190,18 @@ fn is_sorted(nodes: &[Node], node: &Node) -> bool
 fn is_ordered(n: usize, node: &Node) -> bool
     ensures holds { result ≡ ordered n node.now }
 {
-    let layout = Layout::of(Kind::of_number(node.kind));
-    layout.a.is_in_order(n, node.a)
-        && layout.b.is_in_order(n, node.b)
-        && layout.c.is_in_order(n, node.c)
-        && layout.next.is_in_order(n, node.next)
+    let layout = Layout::of(node.listed_kind());
+    is_part_in_order(n, layout.a, node.a)
+        && is_part_in_order(n, layout.b, node.b)
+        && is_part_in_order(n, layout.c, node.c)
+        && is_part_in_order(n, layout.next, node.next)
 }
 
 /// Whether the node is named exactly once, or is node 0.
 fn is_named_once(n: usize, naming: Naming) -> bool
     ensures holds { result ≡ named_once n naming }
 {
-    n == 0 || matches!(naming, Naming::Once(_, _))
+    n == 0 || matches!(naming, Naming::Once(..))
 }
 
 /// The first rule that node `n`, so named, breaks.
@@ -200,7 +210,7 @@ pub fn broken_rule(nodes: &[Node], n: usize, node: &Node, naming: Naming) -> Opt
 {
     if !is_rooted(n, node) {
         Some(Rule::Rooted)
-    } else if Kind::of_number(node.kind).is_none() {
+    } else if node.listed_kind().is_none() {
         Some(Rule::Listed)
     } else if !is_sorted(nodes, node) {
         Some(Rule::Sorted)

@@ -5,8 +5,8 @@ ghost use Rattle.procedure.specs.Table.{node, part, standing};
 use crate::kind::{DeclarationKind, ExpressionKind, Kind, StatementKind};
 use crate::node::Node;
 
-/// What stands at a number: 0 is the end of a list.
-#[derive(Clone, Copy)]
+/// What stands at a number: 0 is the end of a list. Its cases are those of `Kind` and two more, so that a walk is one `match`.
+#[derive(Clone, Copy, PartialEq, Eq, Debug)]
 pub enum Standing {
     End,
     Unlisted,
@@ -20,19 +20,7 @@ pub enum Standing {
 pub fn node_at(nodes: &[Node], n: u16) -> Node
     ensures read { result ≡ node nodes.now n }
 {
-    match nodes.get(n as usize) {
-        Some(node) => *node,
-        None => Node {
-            kind: 0,
-            name: 0,
-            a: 0,
-            b: 0,
-            c: 0,
-            next: 0,
-            lo: 0,
-            hi: 0,
-        },
-    }
+    nodes.get(n as usize).copied().unwrap_or_default()
 }
 
 /// The kind of the node that a reference names: 0 names nothing.
@@ -42,7 +30,7 @@ pub fn part_of(nodes: &[Node], n: u16) -> Option<Kind>
     if n == 0 {
         return None;
     }
-    Kind::of_number(node_at(nodes, n).kind)
+    node_at(nodes, n).listed_kind()
 }
 
 /// What stands at a number.
@@ -52,7 +40,7 @@ pub fn standing_at(nodes: &[Node], n: u16) -> Standing
     if n == 0 {
         return Standing::End;
     }
-    match Kind::of_number(node_at(nodes, n).kind) {
+    match node_at(nodes, n).listed_kind() {
         None => Standing::Unlisted,
         Some(Kind::Procedure) => Standing::Procedure,
         Some(Kind::Declaration(kind)) => Standing::Declaration(kind),

@@ -11,7 +11,7 @@ pub enum Type {
 }
 
 impl Type {
-    /// The type that a predefined name denotes, where it denotes one.
+    /// The type that a predefined name denotes, where it denotes one: a look-up, since most names denote none.
     pub fn of_name(name: u16) -> Option<Type>
         ensures denoted { result ≡ type_of name }
     {

@@ -17,30 +17,26 @@ use Rattle.checker.specs.Walk.{checked}
 use Rattle.soundness.specs.declared.call.Call.{Call}
 use Rattle.soundness.specs.declared.call.Call.TheVariants.{Go, Look}
 use Rattle.soundness.specs.Sound.{after_call, after_calls, starting, Sound}
-use Rattle.service.specs.declared.reply.Reply.{Reply}
-use Rattle.service.specs.declared.reply.Reply.TheVariants.{Went, Saw, Refused}
+use Rattle.service.specs.declared.reply.Done.{Done}
+use Rattle.service.specs.declared.reply.Done.TheVariants.{Went, Saw}
 use Rattle.service.specs.declared.serve.Served.{Served as ServedT}
 
 -- the row of a number, where one is held and given
 abbrev pub looked : ℕ → Rows → Answer Row
 looked r rows = ok_or (item r rows) (record { reason = Absent; node = 0 })
 
+-- what a call did, or why it was not taken
+abbrev pub Reply : Type 0
+Reply = Answer Done
+
 -- what a run shows after a go
-abbrev pub shown_after : State → Reply
+abbrev pub shown_after : State → Done
 shown_after s = Went (record { progress = s.progress; rows = s.rows.held; frames = s.frames.held })
-
-abbrev pub go_reply : Answer (Unit {0}) → State → Reply
-go_reply (Ok u) s = shown_after s
-go_reply (Err e) s = Refused e
-
-abbrev pub look_reply : Answer Row → Reply
-look_reply (Ok r) = Saw r
-look_reply (Err e) = Refused e
 
 -- what a call answers
 abbrev pub reply_to : Table → Call → State → Reply
-reply_to t (Go budget) s = go_reply (go_answer budget t s) (gone budget t s)
-reply_to t (Look r) s = look_reply (looked r s.rows)
+reply_to t (Go budget) s = and_then (go_answer budget t s) λ _. Ok (shown_after (gone budget t s))
+reply_to t (Look r) s = and_then (looked r s.rows) λ row. Ok (Saw row)
 
 -- what each of a list of calls answers, made from the first on
 abbrev pub replies_to : Table → List Call → State → List Reply

@@ -1,12 +1,12 @@
 //! The whole service.
-ghost use Rattle.std.specs.Prelude.{◌≡◌, ◌≤◌, ◌++◌, length, drop, IfErr, MatchResult, OnOk};
+ghost use Rattle.std.specs.Prelude.{◌≡◌, ◌≤◌, ◌++◌, length, drop, IfOk, IfErr, OnOk};
 ghost use Rattle.port.specs.Meaning.{Meaning};
 ghost use Rattle.machine.specs.Go.{state_of};
 ghost use Rattle.soundness.specs.Sound.{after_call, after_calls};
 ghost use Rattle.service.specs.Served.{reply_to, replies_to, room_for, served, with_tables, SoundThroughout};
 
 use crate::look::look;
-use crate::reply::Reply;
+use crate::reply::{Done, Reply};
 use checker::{Declaration, Sheet, check};
 use evaluator::Row;
 use machine::begin::begin;
@@ -24,6 +24,7 @@ pub struct Served {
 }
 
 /// Makes one call.
+// What is lent stays apart, in parameters: fields of a struct that are lent together to `go` get no proof.
 fn make_call<P: Port>(
     run: &mut Run,
     nodes: &[Node],
@@ -37,14 +38,11 @@ fn make_call<P: Port>(
         ≡ after_call nodes.now call (state_of run.old rows.old frames.old (P.meaning port.old)) }
 {
     match call {
-        Call::Go(budget) => match go(run, nodes, rows, frames, port, budget) {
-            Ok(()) => Reply::Went(run.shown()),
-            Err(refusal) => Reply::Refused(refusal),
-        },
-        Call::Look(r) => match look(run, rows, r) {
-            Ok(row) => Reply::Saw(row),
-            Err(refusal) => Reply::Refused(refusal),
-        },
+        Call::Go(budget) => {
+            go(run, nodes, rows, frames, port, budget)?;
+            Ok(Done::Went(run.shown()))
+        }
+        Call::Look(r) => look(run, rows, r).map(Done::Saw),
     }
 }
 
@@ -65,6 +63,7 @@ fn make_calls<P: Port>(
         ≡ replies_to nodes.now calls.now (state_of run.old rows.old frames.old (P.meaning port.old))
         ++ drop (length calls.now) replies.old }
 {
+    // By index: what is written through a zipped `iter_mut` is not known behind the loop.
     for (i, call) in calls.iter().enumerate() {
         replies[i] = make_call(run, nodes, rows, frames, port, *call);
     }
@@ -79,7 +78,8 @@ fn test_places(
     replies: &[Reply],
 ) -> Result<(), Refusal>
     ensures wanted { result ≡ room_for sheet (length rows.now) (length frames.now) (length calls.now) (length replies.now) }
-    ensures room { OnOk result (length calls.now ≤ length replies.now) }
+    ensures room { OnOk result
+        ((sheet.rows ≤ length rows.now) × (sheet.frames ≤ length frames.now) × (length calls.now ≤ length replies.now)) }
 {
     demand(
         usize::from(sheet.rows) <= rows.len()
@@ -90,31 +90,9 @@ fn test_places(
     )
 }
 
-/// Checks, tests the places, begins, and makes the calls, each after the one before it.
-fn serve_in_order<P: Port>(
-    nodes: &[Node],
-    values: &[i32],
-    declarations: &mut [Declaration],
-    rows: &mut [Row],
-    frames: &mut [Frame],
-    port: &mut P,
-    calls: &[Call],
-    replies: &mut [Reply],
-) -> Result<Served, Refusal>
-    ensures served { with_tables result rows.new frames.new (P.meaning port.new) replies.new
-        ≡ served nodes.now (length declarations.old) values.now rows.old frames.old (P.meaning port.old) calls.now replies.old }
-    ensures refused_leaves_all { IfErr result (λ _.
-        (rows.new ≡ rows.old) × (frames.new ≡ frames.old) × (port.new ≡ port.old) × (replies.new ≡ replies.old)) }
-{
-    let sheet = check(nodes, declarations)?;
-    test_places(sheet, rows, frames, calls, replies)?;
-    let mut run = begin(nodes, values, rows)?;
-    make_calls(&mut run, nodes, rows, frames, port, calls, replies);
-    Ok(Served { sheet, run })
-}
-
 /// Checks a procedure, begins it with values, makes the calls in order, and leaves what each answers in the first places of
-/// `replies`; `declarations` is working memory. A refused service leaves all else as it was.
+/// `replies`; `declarations` is working memory. A refused service leaves all else as it was. Each table is lent by its owner for the
+/// call, and so is a parameter of its own.
 pub fn serve<P: Port>(
     nodes: &[Node],
     values: &[i32],
@@ -129,18 +107,12 @@ pub fn serve<P: Port>(
         ≡ served nodes.now (length declarations.old) values.now rows.old frames.old (P.meaning port.old) calls.now replies.old }
     ensures refused_leaves_all { IfErr result (λ _.
         (rows.new ≡ rows.old) × (frames.new ≡ frames.old) × (port.new ≡ port.old) × (replies.new ≡ replies.old)) }
-    ensures sound_throughout { MatchResult result
-        (λ done. SoundThroughout nodes.now values.now rows.old frames.old (P.meaning port.old) calls.now done.sheet)
-        (λ _. Unit {0}) }
+    ensures sound_throughout { IfOk result (λ done.
+        SoundThroughout nodes.now values.now rows.old frames.old (P.meaning port.old) calls.now done.sheet) }
 {
-    serve_in_order(
-        nodes,
-        values,
-        declarations,
-        rows,
-        frames,
-        port,
-        calls,
-        replies,
-    )
+    let sheet = check(nodes, declarations)?;
+    test_places(sheet, rows, frames, calls, replies)?;
+    let mut run = begin(nodes, values, rows)?;
+    make_calls(&mut run, nodes, rows, frames, port, calls, replies);
+    Ok(Served { sheet, run })
 }

@@ -21,12 +21,13 @@ use Rattle.machine.specs.Begin.{is_parameter, parameters_from, behind_parameters
 use Rattle.checker.specs.declared.answer.Sheet.{Sheet}
 use Rattle.checker.specs.declared.names.Declaration.{Declaration as DeclarationT}
 use Rattle.checker.specs.Region.{Environment}
+use Rattle.checker.proofs.Chains.{then, need}
 use Rattle.soundness.specs.Evaluation.{declaration_of, declarations_of, Truths, none, more}
 use Rattle.soundness.specs.Open.{object, Declared, none as nothing, more as one_more}
 use Rattle.soundness.specs.Sound.{objects, starting}
 use Rattle.soundness.proofs.Good.{Opens, opens_end, opens_one, declared_as, Passes}
 use Rattle.soundness.proofs.Keep.{arrive, opening_all}
-use Rattle.soundness.proofs.Meets.{Meets, met, then, asks, meets_then, meets_map, asked, meets_itself}
+use Rattle.soundness.proofs.Meets.{Meets, met, meets_then, meets_map, wanted, meets_itself}
 use Rattle.soundness.proofs.Parts.{is_local, parameter-next, no_declaration}
 use Rattle.soundness.proofs.Rows.{Fits, number_fits, true_false}
 use Rattle.soundness.proofs.Safe.{Safe, on_way}
@@ -39,8 +40,8 @@ data Fitted (t : Table) : List ℕ → List ℤ → Type 0 where
   fitted_one : {n : ℕ} {ns : List ℕ} {v : ℤ} {vs : List ℤ} → Fits (parameter_type t n) v → Fitted t ns vs → Fitted t (n ∷ ns) (v ∷ vs)
 
 fitting_shut : (t : Table) (n : ℕ) (ns : List ℕ) (v : ℤ) (vs : List ℤ) → fitting t (n ∷ ns) (v ∷ vs) ≡ (
-    then (asks (is_some (value_of_type (parameter_type t n) v)) Unfit n) λ _. fitting t ns vs)
-unfolding then asks
+    then (need (is_some (value_of_type (parameter_type t n) v)) Unfit n) λ _. fitting t ns vs)
+unfolding then need
 fitting_shut t n ns v vs = refl
 
 fitting_good : (t : Table) (ns : List ℕ) (vs : List ℤ) → Meets (λ _. Fitted t ns vs) (fitting t ns vs)
@@ -48,7 +49,7 @@ fitting_good t [] vs = met fitted_none
 fitting_good t (n ∷ ns) [] = met fitted_short
 fitting_good t (n ∷ ns) (v ∷ vs) =
     subst (Meets (λ _. Fitted t (n ∷ ns) (v ∷ vs))) (sym (fitting_shut t n ns v vs))
-    (meets_then (asked _ _ _) λ _ h. meets_map (fitting_good t ns vs) λ _ f. fitted_one (number_fits (parameter_type t n) v h) f)
+    (meets_then (wanted _ _ _) λ _ h. meets_map (fitting_good t ns vs) λ _ f. fitted_one (number_fits (parameter_type t n) v h) f)
 
 -- behind the parameters, with their rows the newest first
 record Entered (t : Table) (R : ℕ) (Δ : Environment) (c : ℕ) (rs : List Row) (e : ℕ) : Type 0 where
@@ -128,24 +129,24 @@ pub record Begins (t : Table) (values : List ℤ) (places : List Row) (b : Begun
   }
 
 begun_shut : (t : Table) (values : List ℤ) (places : List Row) → begun t values places ≡ (
-    then (asks (not (is_bulky t)) Bulky 0) λ _.
+    then (need (not (is_bulky t)) Bulky 0) λ _.
     then (tested t) λ _.
     then (marked t (parameters t)) λ _.
-    then (asks (eqb (length values) (length (parameters t))) Miscounted 0) λ _.
-    then (asks (leb (length (parameters t)) (length places)) Short 0) λ _.
+    then (need (eqb (length values) (length (parameters t))) Miscounted 0) λ _.
+    then (need (leb (length (parameters t)) (length places)) Short 0) λ _.
     then (fitting t (parameters t) values) λ _.
     Ok (record {
       progress = fresh (first_due t);
       rows = record { places = parameter_rows t (parameters t) values ++ drop (length values) places; held = length values };
       frames_held = 0;
     }))
-unfolding then asks
+unfolding then need
 begun_shut t values places = refl
 
 pub begun_good : (t : Table) (values : List ℤ) (places : List Row) → Meets (Begins t values places) (begun t values places)
 begun_good t values places =
     subst (Meets (Begins t values places)) (sym (begun_shut t values places))
-    (meets_then (asked _ _ _) λ _ _. meets_then (meets_itself _) λ _ _. meets_then (meets_itself _) λ _ _. meets_then (asked _ _ _) λ _ e. meets_then (asked _ _ _) λ _ l.
+    (meets_then (wanted _ _ _) λ _ _. meets_then (meets_itself _) λ _ _. meets_then (meets_itself _) λ _ _. meets_then (wanted _ _ _) λ _ e. meets_then (wanted _ _ _) λ _ l.
     meets_then (fitting_good t (parameters t) values) λ _ f. met (record { long = eqb-true _ _ e; short = leb-true _ _ l; fits = f; is = refl }))
 
 length-rows : (t : Table) (ns : List ℕ) (vs : List ℤ) → length vs ≡ length ns → length (parameter_rows t ns vs) ≡ length vs

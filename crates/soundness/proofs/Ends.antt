@@ -3,7 +3,7 @@ use Rattle.std.proofs.Common.{◌≡◌, ℕ, zero, suc, ◌+◌, ◌<◌, ◌�
 use Rattle.std.proofs.lemmas.Bool.{le-leb, and_from}
 use Rattle.stack.specs.Acts.{top}
 use Rattle.port.specs.Meaning.{Meaning, get_answer, put_answer}
-use Rattle.port.specs.declared.port.Full.{Full}
+use Rattle.stack.specs.declared.Full.{Full}
 use Rattle.procedure.specs.Form.{is_bulky}
 use Rattle.procedure.specs.Formed.{Formed}
 use Rattle.procedure.specs.Table.{Table}

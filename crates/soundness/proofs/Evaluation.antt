@@ -1,5 +1,5 @@
 -- An expression that has a type comes to a value of that type, or arithmetic faults.
-use Rattle.std.proofs.Common.{◌≡◌, ℕ, zero, suc, ◌<◌, Bool, true, false, cond, ◌||◌, eqb, ◌⊎◌, List, [], ◌∷◌, length, ℤ, pos, Some, None, Ok, Err, Option, Result, refl, subst, inl, inr}
+use Rattle.std.proofs.Common.{◌≡◌, ℕ, zero, suc, ◌<◌, Bool, true, false, cond, ◌||◌, eqb, ◌⊎◌, List, [], ◌∷◌, length, ℤ, pos, Some, None, Ok, Err, Option, Result, sym, refl, subst, inl, inr}
 use Rattle.std.proofs.lemmas.Bool.{lt-ltb}
 use Rattle.integer.specs.declared.fault.ArithmeticFault.{ArithmeticFault}
 use Rattle.procedure.specs.declared.kind.ExpressionKind.{ExpressionKind}
@@ -14,7 +14,7 @@ use Rattle.procedure.specs.declared.types.«Type».{«Type» as TypeT}
 use Rattle.procedure.specs.declared.types.«Type».TheVariants.{Integer as IntegerT, Boolean as BooleanT}
 use Rattle.procedure.specs.Operator.{unary_operator_of, binary_operator_of}
 use Rattle.procedure.specs.Rules.{Obeys}
-use Rattle.procedure.specs.Sequence.{and_then}
+use Rattle.procedure.specs.Sequence.{Answer, and_then}
 use Rattle.procedure.specs.Table.{Table, node, part}
 use Rattle.evaluator.specs.declared.rows.Row.{Row}
 use Rattle.evaluator.specs.declared.value.Value.{Value}
@@ -23,12 +23,12 @@ use Rattle.evaluator.specs.Evaluate.{evaluated, name_value, row_value, operand_k
 use Rattle.evaluator.specs.Operators.{Evaluation, at_operator, unary_value, binary_value}
 use Rattle.evaluator.specs.Rows.{topmost}
 use Rattle.evaluator.specs.Values.{type_of_value}
-use Rattle.checker.specs.Answer.{Answer, and_then as and_next}
 use Rattle.checker.specs.Names.{means, means_inside}
-use Rattle.checker.specs.declared.names.Meaning.TheVariants.{Nothing, Mark, Object}
+use Rattle.checker.specs.declared.names.Meaning.TheVariants.{Mark, Object}
 use Rattle.checker.specs.Typing.{typed, typed_as, object_type, unary_type, binary_type}
+use Rattle.checker.proofs.Chains.{unary_chain, binary_chain}
 use Rattle.soundness.specs.Evaluation.{declarations_of, Truths, more, ComesTo, value, fault, EvaluationIsTyped}
-use Rattle.soundness.proofs.Meets.{Meets, met, unmet, meets_map, meets_all, met_by}
+use Rattle.soundness.proofs.Meets.{Meets, met, unmet, meets_then, meets_map, meets_all, met_by}
 use Rattle.soundness.proofs.Parts.{unary_before, binary_before}
 
 -- what a row of a type holds
@@ -48,7 +48,7 @@ means_comes : (x : ℕ) (rows : List Row) (n : ℕ) → Truths rows → Meets (�
 means_comes x [] n h = go (eqb x 1) (eqb x 2) (eqb x 15) (eqb x 16)
   where
     go : (a b c d : Bool) → Meets (λ v. ComesTo v (cond c (Ok (Boolean true)) (cond d (Ok (Boolean false)) (name_value None 0 n))))
-        (object_type (cond a (Mark IntegerT) (cond b (Mark BooleanT) (cond (c || d) (Object BooleanT true) Nothing))) n)
+        (object_type (cond a (Some (Mark IntegerT)) (cond b (Some (Mark BooleanT)) (cond (c || d) (Some (Object BooleanT true)) None))) n)
     go true b c d = unmet
     go false true c d = unmet
     go false false true d = met (value (Boolean true) refl)
@@ -57,7 +57,7 @@ means_comes x [] n h = go (eqb x 1) (eqb x 2) (eqb x 15) (eqb x 16)
 means_comes x (r ∷ rows) n (more h k) = go (eqb r.name x) (means_comes x rows n k)
   where
     go : (b : Bool) → Meets (λ v. ComesTo v (name_value (topmost x rows) x n)) (object_type (means (declarations_of rows) x) n)
-        → Meets (λ v. ComesTo v (name_value (cond b (Some (record { place = length rows; row = r })) (topmost x rows)) x n)) (object_type (cond b (Object r.of_type r.constant) (means (declarations_of rows) x)) n)
+        → Meets (λ v. ComesTo v (name_value (cond b (Some (record { place = length rows; row = r })) (topmost x rows)) x n)) (object_type (cond b (Some (Object r.of_type r.constant)) (means (declarations_of rows) x)) n)
     go true ih = met (row_comes r n h)
     go false ih = ih
 
@@ -66,7 +66,7 @@ name_comes : (own : Option ℕ) (x : ℕ) (rows : List Row) (n : ℕ) → Truths
 name_comes None x rows n h = means_comes x rows n h
 name_comes (Some own) x rows n h = go (eqb own x)
   where
-    go : (b : Bool) → Meets (λ v. ComesTo v (name_value (topmost x rows) x n)) (object_type (cond b Nothing (means (declarations_of rows) x)) n)
+    go : (b : Bool) → Meets (λ v. ComesTo v (name_value (topmost x rows) x n)) (object_type (cond b None (means (declarations_of rows) x)) n)
     go true = unmet
     go false = means_comes x rows n h
 
@@ -118,10 +118,6 @@ record Evaluates (t : Table) (rows : List Row) (l e : ℕ) (of_type : TypeT) : T
   is : part t e ≡ Some (Expression kind)
   comes : ComesTo of_type (evaluated l t rows kind e)
 
-next_meets : {A B : Type 0} {P : A → Type 0} {Q : B → Type 0} (r : Answer A) (k : A → Answer B) → Meets P r → ((x : A) → P x → Meets Q (k x)) → Meets Q (and_next r k)
-next_meets (Ok x) k (met h) f = f x h
-next_meets (Err e) k unmet f = unmet
-
 operand_is : (t : Table) (n m : ℕ) (k : ExpressionKind) → m < n → part t m ≡ Some (Expression k) → operand_kind t n m ≡ Ok k
 operand_is t n m k l q = rw (lt-ltb m n l, q)
 
@@ -136,19 +132,20 @@ typed_as_good below (Some (Expression Numeral)) t own rows l e w h ih q = met (r
 typed_as_good below (Some (Expression Name)) t own rows l e w h ih q =
     meets_map (name_comes own (node t e).name rows e h) λ v c. record { kind = Name; is = q; comes = c }
 typed_as_good below (Some (Expression Unary)) t own rows l e w h ih q =
-    next_meets (below (node t e).a) (λ x. unary_type (unary_operator_of (node t e).lo) x e) (ih (node t e).a) λ x i.
+    subst (Meets (Evaluates t rows (suc l) e)) (sym (unary_chain below t own (declarations_of rows) e))
+    (meets_then (ih (node t e).a) λ x i.
     meets_map (unary_after (unary_operator_of (node t e).lo) e i.comes) λ v c.
-    record { kind = Unary; is = q; comes = rw (operand_is t e (node t e).a i.kind (unary_before t e w q) i.is) c }
+    record { kind = Unary; is = q; comes = rw (operand_is t e (node t e).a i.kind (unary_before t e w q) i.is) c })
 typed_as_good below (Some (Expression Binary)) t own rows l e w h ih q =
     let b = binary_before t e w q in
-    next_meets (below (node t e).a) (λ x. and_next (below (node t e).b) λ y. binary_type (binary_operator_of (node t e).lo) x y e) (ih (node t e).a) λ x i.
-    next_meets (below (node t e).b) (λ y. binary_type (binary_operator_of (node t e).lo) x y e) (ih (node t e).b) λ y j.
+    subst (Meets (Evaluates t rows (suc l) e)) (sym (binary_chain below t own (declarations_of rows) e))
+    (meets_then (ih (node t e).a) λ x i. meets_then (ih (node t e).b) λ y j.
     meets_map (binary_after (binary_operator_of (node t e).lo) e i.comes j.comes) λ v c.
     record {
       kind = Binary;
       is = q;
       comes = rw (operand_is t e (node t e).a i.kind b.0 i.is, operand_is t e (node t e).b j.kind b.1 j.is) c;
-    }
+    })
 
 typed_good : (l : ℕ) (t : Table) (own : Option ℕ) (rows : List Row) (e : ℕ) → Obeys t → Truths rows → Meets (Evaluates t rows l e) (typed l t own (declarations_of rows) e)
 unfolding typed

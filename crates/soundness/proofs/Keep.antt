@@ -182,13 +182,13 @@ kept_more (leaving rest f fs n e k i a l) h = leaving rest f fs n e k i a (omega
 
 -- after an assignment of a value that fits
 assigned : {t : Table} {R F : ℕ} {rs : List Row} {fs : List Frame} {at c m' : ℕ} (k : StatementKind) (x : ℕ) (z : ℤ) (u : TypeT) (p : Placed) → standing t at ≡ Statement k
-    → means (declarations_of rs) x ≡ Object u false → topmost x rs ≡ Some p → Fits p.row.of_type z → Good t R F (length fs) (declarations_of rs) (node t at).next c
+    → means (declarations_of rs) x ≡ Some (Object u false) → topmost x rs ≡ Some p → Fits p.row.of_type z → Good t R F (length fs) (declarations_of rs) (node t at).next c
     → Stack t R F rs fs m' → Open t (holder_of fs) at (objects rs) → Truths rs → Live t R F (assign x z rs) fs (node t at).next (c + m')
 assigned {t} {R} {F} {rs} {fs} {at} {c} {m'} k x z u p q e y fit g s o f =
     at_statement c m' (rw (declarations_assign x z rs) g) (stack_assign x z u e s) (rw (objects_assign x z rs) (open_next k q o)) (truths_assign x z rs p f y fit) (omega arith)
 
 keep_assignment : {t : Table} {R F : ℕ} {rs : List Row} {fs : List Frame} {u : TypeT} (rows : Rows) (frames : Frames) (at c m' m : ℕ) → Formed t → Holds R rows rs → standing t at ≡ Statement Assignment
-    → means (declarations_of rs) (node t at).name ≡ Object u false → typed 32 t None (declarations_of rs) (node t at).a ≡ Ok u → Good t R F (length fs) (declarations_of rs) (node t at).next c
+    → means (declarations_of rs) (node t at).name ≡ Some (Object u false) → typed 32 t None (declarations_of rs) (node t at).a ≡ Ok u → Good t R F (length fs) (declarations_of rs) (node t at).next c
     → Stack t R F rs fs m' → Open t (holder_of fs) at (objects rs) → Truths rs → suc (c + m') ≤ m → Kept t R F m rs fs (decided t rows frames at)
 keep_assignment {t} {R} {F} {rs} {fs} {u} rows frames at c m' m w hr q e ty g s o f l = go (valued None rows at w hr f ty)
   where
@@ -206,7 +206,7 @@ keep_assignment {t} {R} {F} {rs} {fs} {u} rows frames at c m' m w hr q e ty g s 
         (assigned Assignment (node t at).name (number_of v) u y.found q e y.is (subst (λ j. Fits j (number_of v)) (i ∙ sym y.typed) (value-fits v)) g s o f) (omega arith))
 
 keep_get : {t : Table} {R F : ℕ} {rs : List Row} {fs : List Frame} {u : TypeT} (rows : Rows) (frames : Frames) (at c m' m : ℕ) → Holds R rows rs → standing t at ≡ Statement Get
-    → means (declarations_of rs) (node t at).name ≡ Object u false → Good t R F (length fs) (declarations_of rs) (node t at).next c
+    → means (declarations_of rs) (node t at).name ≡ Some (Object u false) → Good t R F (length fs) (declarations_of rs) (node t at).next c
     → Stack t R F rs fs m' → Open t (holder_of fs) at (objects rs) → Truths rs → suc (c + m') ≤ m → Kept t R F m rs fs (decided t rows frames at)
 keep_get {t} {rs = rs} {u = u} rows frames at c m' m hr q e g s o f l =
     let y = target_of (node t at).name rs u e in

@@ -1,20 +1,20 @@
 -- The theorem: what passed the check and was begun stays sound.
-use Rattle.std.proofs.Common.{◌≡◌, ℕ, ◌≤◌, false, not, leb, length, Ok, Err, Result, sym, refl, subst, MatchResult}
+use Rattle.std.proofs.Common.{◌≡◌, ℕ, ◌≤◌, false, length, Ok, Err, Result, sym, subst, MatchResult}
 use Rattle.std.proofs.lemmas.Bool.{leb-true, not-true}
-use Rattle.procedure.specs.declared.refusal.Reason.TheVariants.{Bulky, Taken, Overlong, Short}
 use Rattle.procedure.specs.declared.refusal.Refusal.{Refusal}
 use Rattle.procedure.specs.Form.{is_bulky, tested}
 use Rattle.procedure.specs.Formed.{Formed, Deserved}
-use Rattle.procedure.specs.Table.{Table, node}
+use Rattle.procedure.specs.Table.{Table}
 use Rattle.procedure.proofs.Verdicts.{judged as form_judged}
 use Rattle.checker.specs.declared.answer.Sheet.{Sheet}
 use Rattle.checker.specs.Cost.{exact}
 use Rattle.checker.specs.Walk.{procedure, checked}
+use Rattle.checker.proofs.Chains.{checked_chain, judged_chain}
 use Rattle.soundness.specs.Sound.{starting, StaysSound}
 use Rattle.soundness.proofs.Begins.{begun_good, begins_safe}
 use Rattle.soundness.proofs.Ends.{safe_sound}
 use Rattle.soundness.proofs.Good.{Passes, procedure_good}
-use Rattle.soundness.proofs.Meets.{Meets, met, unmet, then, wants, meets_then, met_by, wanted}
+use Rattle.soundness.proofs.Meets.{Meets, met, unmet, meets_then, met_by, wanted}
 use Rattle.soundness.proofs.Safe.{calls_safe}
 
 -- what a passed check says
@@ -31,23 +31,13 @@ tested_good t = go (tested t) (form_judged t)
     go (Ok u) h = met h
     go (Err e) h = unmet
 
-checked_shut : (t : Table) (w : ℕ) → checked t w ≡ (
-    then (wants (not (is_bulky t)) Bulky 0) λ _.
-    then (wants (leb 256 w) Short 0) λ _.
-    then (tested t) λ _.
-    then (wants (leb 17 (node t 0).name) Taken 0) λ _.
-    then (procedure exact (length t) t) λ s.
-    then (wants (leb s.ceiling 1000000000) Overlong 0) λ _.
-    Ok s)
-unfolding then wants
-checked_shut t w = refl
-
 checked_good : (t : Table) (w : ℕ) → Meets (Checked t) (checked t w)
 checked_good t w =
-    subst (Meets (Checked t)) (sym (checked_shut t w))
+    subst (Meets (Checked t)) (sym (checked_chain t w))
     (meets_then (wanted _ _ _) λ _ b. meets_then (wanted _ _ _) λ _ _. meets_then (tested_good t) λ _ f. meets_then (wanted _ _ _) λ _ _.
-    meets_then (procedure_good (length t) t) λ s p. meets_then (wanted _ _ _) λ _ l.
-    met (record { small = not-true (is_bulky t) b; formed = f; passes = p; low = leb-true _ _ l }))
+    subst (Meets (Checked t)) (sym (judged_chain (procedure exact (length t) t)))
+    (meets_then (procedure_good (length t) t) λ s p. meets_then (wanted _ _ _) λ _ l.
+    met (record { small = not-true (is_bulky t) b; formed = f; passes = p; low = leb-true _ _ l })))
 
 pub stays_sound : StaysSound
 stays_sound t w sheet values rows frames port b e q lr lf calls =

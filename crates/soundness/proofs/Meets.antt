@@ -1,23 +1,11 @@
 -- What holds of an answer if it is no refusal, followed along a sequence.
 use Rattle.std.proofs.Common.{◌≡◌, ℕ, Bool, true, false, Ok, Err, Result, refl, subst}
 use Rattle.procedure.specs.declared.refusal.Reason.{Reason}
-use Rattle.procedure.specs.Sequence.{Answer, and_then, want}
-use Rattle.checker.specs.Answer.{want as check_want}
+use Rattle.checker.proofs.Chains.{then, need}
 
 pub data Meets {A E : Type 0} (P : A → Type 0) : Result A E → Type 0 where
   met : {x : A} → P x → Meets P (Ok x)
   unmet : {e : E} → Meets P (Err e)
-
--- a sequence that stays shut, so that its parts are found
-unfoldable pub then : {A B E : Type 0} → Result A E → (A → Result B E) → Result B E
-then r k = and_then r k
-
--- a test of the check, and one of begin
-unfoldable pub wants : Bool → Reason → ℕ → Answer (Unit {0})
-wants b reason n = check_want b reason n
-
-unfoldable pub asks : Bool → Reason → ℕ → Answer (Unit {0})
-asks b reason n = want b reason n
 
 pub meets_then : {A B E : Type 0} {P : A → Type 0} {Q : B → Type 0} {r : Result A E} {k : A → Result B E} → Meets P r → ((x : A) → P x → Meets Q (k x)) → Meets Q (then r k)
 unfolding then
@@ -36,15 +24,10 @@ pub meets_itself : {A E : Type 0} (r : Result A E) → Meets (λ x. r ≡ Ok x) 
 meets_itself (Ok x) = met refl
 meets_itself (Err e) = unmet
 
-pub wanted : (b : Bool) (reason : Reason) (n : ℕ) → Meets (λ _. b ≡ true) (wants b reason n)
-unfolding wants
+pub wanted : (b : Bool) (reason : Reason) (n : ℕ) → Meets (λ _. b ≡ true) (need b reason n)
+unfolding need
 wanted true reason n = met refl
 wanted false reason n = unmet
-
-pub asked : (b : Bool) (reason : Reason) (n : ℕ) → Meets (λ _. b ≡ true) (asks b reason n)
-unfolding asks
-asked true reason n = met refl
-asked false reason n = unmet
 
 met_of : {A E : Type 0} {P : A → Type 0} {x : A} → Meets {E = E} P (Ok x) → P x
 met_of (met h) = h

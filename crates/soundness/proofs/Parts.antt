@@ -12,7 +12,7 @@ use Rattle.procedure.specs.declared.layout.Role.TheVariants.{Locals}
 use Rattle.procedure.specs.declared.table.Standing.TheVariants.{Declaration as DeclarationS}
 use Rattle.procedure.specs.Kind.{kind_of}
 use Rattle.procedure.specs.Layout.{layout}
-use Rattle.procedure.specs.Rules.{Obeys, fits, parts_fit, parts_in_order, values_hold}
+use Rattle.procedure.specs.Rules.{Obeys, fits, part_holds, parts_fit, parts_in_order, values_hold}
 use Rattle.procedure.specs.Table.{Table, node, blank, layout_of, part, standing, standing_of, is_procedure, is_local as is_local_part}
 use Rattle.procedure.proofs.Obeys.{holds}
 
@@ -75,12 +75,12 @@ local_fits : (t : Table) (m : ℕ) (k : DeclarationKind) → fits t Locals m ≡
 local_fits t zero k f e = let z : ◌≡◌ {A = ℕ} 0 1 = cc in absurd (omega arith)
 local_fits t (suc m) k f e = local_is k (subst (λ (o : Option Kind). is_local_part o ≡ true) (declaration-part t (suc m) k e) (or_suc m _ f))
 
-next_fits : (t : Table) (n : ℕ) (k : Kind) → Obeys t → part t n ≡ Some k → fits t (layout (Some k)).next (node t n).next ≡ true
+next_fits : (t : Table) (n : ℕ) (k : Kind) → Obeys t → part t n ≡ Some k → part_holds t (layout (Some k)).next (node t n).next ≡ true
 next_fits t n k w q =
     let l = layout (Some k) in
-    let a = and_parts (fits t l.a (node t n).a) _ (parts_at t n k w q) in
-    let b = and_parts (fits t l.b (node t n).b) _ a.1 in
-    (and_parts (fits t l.c (node t n).c) _ b.1).1
+    let a = and_parts (part_holds t l.a (node t n).a) _ (parts_at t n k w q) in
+    let b = and_parts (part_holds t l.b (node t n).b) _ a.1 in
+    (and_parts (part_holds t l.c (node t n).c) _ b.1).1
 
 -- what follows a local is none but a local
 pub local-next : (t : Table) (n : ℕ) (k j : DeclarationKind) → Obeys t → is_local k ≡ true → standing t n ≡ DeclarationS k → standing t (node t n).next ≡ DeclarationS j → is_local j ≡ true

@@ -12,7 +12,7 @@ use Rattle.evaluator.specs.declared.value.Value.TheVariants.{Integer, Boolean}
 use Rattle.evaluator.specs.Rows.{topmost}
 use Rattle.evaluator.specs.Values.{number_of, type_of_value, value_of_type}
 use Rattle.machine.specs.Decide.{row_with}
-use Rattle.checker.specs.declared.names.Meaning.TheVariants.{Nothing, Mark, Object}
+use Rattle.checker.specs.declared.names.Meaning.TheVariants.{Mark, Object}
 use Rattle.checker.specs.Cost.{above}
 use Rattle.checker.specs.Names.{means}
 use Rattle.soundness.specs.Evaluation.{declaration_of, declarations_of, Truths, none, more}
@@ -90,18 +90,18 @@ pub record Target (x : ℕ) (rows : List Row) (of_type : TypeT) : Type 0 where
   pub typed : found.row.of_type ≡ of_type
   pub free : found.row.constant ≡ false
 
-predefined-constant : {P : Type 0} (a b c : Bool) (u : TypeT) → cond a (Mark IntegerT) (cond b (Mark BooleanT) (cond c (Object BooleanT true) Nothing)) ≡ Object u false → P
+predefined-constant : {P : Type 0} (a b c : Bool) (u : TypeT) → cond a (Some (Mark IntegerT)) (cond b (Some (Mark BooleanT)) (cond c (Some (Object BooleanT true)) None)) ≡ Some (Object u false) → P
 predefined-constant true b c u e = let z : ◌≡◌ {A = ℕ} 0 1 = cc in absurd (omega arith)
 predefined-constant false true c u e = let z : ◌≡◌ {A = ℕ} 0 1 = cc in absurd (omega arith)
 predefined-constant false false true u e = let z : true ≡ false = cc in true_false z
 predefined-constant false false false u e = let z : ◌≡◌ {A = ℕ} 0 1 = cc in absurd (omega arith)
 
-pub target_of : (x : ℕ) (rows : List Row) (u : TypeT) → means (declarations_of rows) x ≡ Object u false → Target x rows u
+pub target_of : (x : ℕ) (rows : List Row) (u : TypeT) → means (declarations_of rows) x ≡ Some (Object u false) → Target x rows u
 target_of x [] u e = predefined-constant (eqb x 1) (eqb x 2) (eqb x 15 || eqb x 16) u e
 target_of x (r ∷ rows) u e = go (eqb r.name x) refl e (target_of x rows u)
   where
-    go : (b : Bool) → eqb r.name x ≡ b → cond b (Object r.of_type r.constant) (means (declarations_of rows) x) ≡ Object u false
-        → (means (declarations_of rows) x ≡ Object u false → Target x rows u) → Target x (r ∷ rows) u
+    go : (b : Bool) → eqb r.name x ≡ b → cond b (Some (Object r.of_type r.constant)) (means (declarations_of rows) x) ≡ Some (Object u false)
+        → (means (declarations_of rows) x ≡ Some (Object u false) → Target x rows u) → Target x (r ∷ rows) u
     go true p q ih = record { found = record { place = length rows; row = r }; is = rw p; typed = cc; free = cc }
     go false p q ih = let c = ih q in record { found = c.found; is = rw p c.is; typed = c.typed; free = c.free }
 
@@ -142,7 +142,7 @@ assign_above x z {rest} (up {x = r} {xs = rows} a) = go (eqb r.name x) (assign_a
   where
     go : (b : Bool) → Above rest (assign x z rows) ⊎ (Above (assign x z rest) (assign x z rows) × (means (declarations_of rows) x ≡ means (declarations_of rest) x))
         → Above rest (cond b (row_with r z ∷ rows) (r ∷ assign x z rows))
-        ⊎ (Above (assign x z rest) (cond b (row_with r z ∷ rows) (r ∷ assign x z rows)) × (cond b (Object r.of_type r.constant) (means (declarations_of rows) x) ≡ means (declarations_of rest) x))
+        ⊎ (Above (assign x z rest) (cond b (row_with r z ∷ rows) (r ∷ assign x z rows)) × (cond b (Some (Object r.of_type r.constant)) (means (declarations_of rows) x) ≡ means (declarations_of rest) x))
     go true w = inl (up a)
     go false (inl w) = inl (up w)
     go false (inr w) = inr (up w.0, w.1)

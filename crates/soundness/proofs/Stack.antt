@@ -74,7 +74,7 @@ stack_left (stack_loop c₁ c m' q k p o b g s l) = omega arith
 stack_left (stack_block rest c m' q k a o g s l) = omega arith
 
 -- an assignment to a variable leaves the frames as they are
-pub stack_assign : {t : Table} {R F : ℕ} {rows : List Row} {fs : List Frame} {m : ℕ} (x : ℕ) (z : ℤ) (u : TypeT) → means (declarations_of rows) x ≡ Object u false
+pub stack_assign : {t : Table} {R F : ℕ} {rows : List Row} {fs : List Frame} {m : ℕ} (x : ℕ) (z : ℤ) (u : TypeT) → means (declarations_of rows) x ≡ Some (Object u false)
     → Stack t R F rows fs m → Stack t R F (assign x z rows) fs m
 stack_assign x z u e (stack_none l) = stack_none l
 stack_assign x z u e (stack_branch {rows = rows} c m' q op g s l) =
@@ -82,8 +82,8 @@ stack_assign x z u e (stack_branch {rows = rows} c m' q op g s l) =
 stack_assign {t} {R} {F} x z u e (stack_loop {r = r} {rows = rows} {f = f} {fs = fs} {m = m} c₁ c m' q k p op b g s l) =
     go (eqb r.name x) e (λ w. stack_assign x z u w s)
   where
-    go : (b : Bool) → cond b (Object r.of_type r.constant) (means (declarations_of rows) x) ≡ Object u false
-        → (means (declarations_of rows) x ≡ Object u false → Stack t R F (assign x z rows) fs m')
+    go : (b : Bool) → cond b (Some (Object r.of_type r.constant)) (means (declarations_of rows) x) ≡ Some (Object u false)
+        → (means (declarations_of rows) x ≡ Some (Object u false) → Stack t R F (assign x z rows) fs m')
         → Stack t R F (cond b (row_with r z ∷ rows) (r ∷ assign x z rows)) (f ∷ fs) m
     go true w ih = let i : r.constant ≡ true = ap (λ (d : Declaration). d.constant) p in let j : r.constant ≡ false = cc in true_false (sym i ∙ j)
     go false w ih =
@@ -92,7 +92,7 @@ stack_assign {t} {R} {F} x z u e (stack_block {rows = rows} {f = f} {fs = fs} {m
     go (assign_above x z a) (λ w. stack_assign x z u w s)
   where
     go : Above rest (assign x z rows) ⊎ (Above (assign x z rest) (assign x z rows) × (means (declarations_of rows) x ≡ means (declarations_of rest) x))
-        → (means (declarations_of rest) x ≡ Object u false → Stack t R F (assign x z rest) fs m') → Stack t R F (assign x z rows) (f ∷ fs) m
+        → (means (declarations_of rest) x ≡ Some (Object u false) → Stack t R F (assign x z rest) fs m') → Stack t R F (assign x z rows) (f ∷ fs) m
     go (inl b) ih = stack_block rest c m' q k b op g s l
     go (inr b) ih = stack_block (assign x z rest) c m' q (k ∙ sym (length_assign x z rest)) b.0 (rw (objects_assign x z rest) op) (rw (declarations_assign x z rest) g) (ih (sym b.1 ∙ e)) l
 

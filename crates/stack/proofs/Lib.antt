@@ -1,2 +1,3 @@
 pub mod Newest
 pub mod Views
+pub mod Lookup

@@ -1,14 +1,14 @@
 -- Rows of which the newest of a name counts. Assumes nothing.
-use Rattle.std.specs.Prelude.{ℕ, cond, List, [], ◌∷◌, length, ℤ, Some, None, Err, Option, Result, ◌==◌}
+use Rattle.std.specs.Prelude.{ℕ, List, ℤ, Some, None, Err, Option, Result}
 use Rattle.stack.specs.declared.Absent.{Absent}
+use Rattle.stack.specs.Lookup.{place_of}
 use Rattle.stack.specs.Tables.{Table, newest_first}
 use Rattle.stack.specs.Acts.{absent, item, top, replace, cut}
 use Rattle.stack_uses.specs.declared.rows.Row.{Row}
 
 -- the place of the topmost row of a name, counted from the bottom
 abbrev pub topmost : ℕ → List Row → Option ℕ
-topmost name [] = None
-topmost name (row ∷ below) = cond (row.name == name) (Some (length below)) (topmost name below)
+topmost = place_of (λ row. row.name)
 
 abbrev pub revalued : ℤ → ℕ → Option Row → Table Row → Result (Table Row) Absent
 revalued value i None t = Err absent

@@ -5,7 +5,7 @@ ghost use Rattle.stack.specs.Stacks.{table, SameSlice};
 ghost use Rattle.stack.specs.Tables.{newest, Kept};
 ghost use Rattle.stack_uses.specs.Rows.{topmost, assigned, left};
 
-use stack::{Absent, Full, Stack};
+use stack::{Absent, Full, Named, Stack, newest_named};
 
 #[derive(Clone, Copy, PartialEq, Eq, Debug)]
 pub struct Row {
@@ -26,6 +26,14 @@ impl Row {
     }
 }
 
+impl Named for Row {
+    ghost named = { λ row. row.name };
+
+    fn name(&self) -> u16 {
+        self.name
+    }
+}
+
 /// Over an array of its own: puts two, replaces the lower, takes the upper off, and puts another there.
 pub fn work() -> [Row; 3]
     ensures { result ≡ record { name = 21; constant = true; value = pos 5 }
@@ -42,26 +50,13 @@ pub fn work() -> [Row; 3]
     places
 }
 
-/// The place of the topmost row of a name.
-pub fn find_topmost(rows: &[Row], name: u16) -> Option<usize>
-    ensures place { result ≡ topmost name (newest (length rows.now) rows.now) }
-    ensures within { IfSome result (λ i. i < length rows.now) }
-{
-    for i in (0..rows.len()).rev() {
-        if rows[i].name == name {
-            return Some(i);
-        }
-    }
-    None
-}
-
 /// Gives the topmost row of a name another value.
 pub fn assign(rows: &mut Stack<Row>, name: u16, value: i32) -> Result<(), Absent>
     ensures answer { with_table result (table rows.new) ≡ assigned name value (table rows.old) }
     ensures refused { OnErr result (table rows.new ≡ table rows.old) }
     ensures same { SameSlice rows.old.places rows.new.places }
 {
-    let i = find_topmost(rows.held_items(), name).ok_or(Absent)?;
+    let i = newest_named(rows.held_items(), name).ok_or(Absent)?;
     let row = rows.get(i).ok_or(Absent)?;
     rows.replace(i, Row { value, ..row })
 }

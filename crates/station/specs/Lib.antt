@@ -1,3 +1,4 @@
 pub mod Verb
 pub mod Report
 pub mod Calibrate
+pub mod Failure

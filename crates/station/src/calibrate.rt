@@ -1,57 +1,48 @@
 //! `station calibrate A H K [N]`: the numbers that wait at a calibrator.
 ghost use Rattle.std.specs.Prelude.{◌≡◌};
-ghost use Rattle.station.specs.Calibrate.{unsigned_of};
+ghost use Rattle.std.specs.Result.{result_map_both};
+ghost use Rattle.station.specs.Calibrate.{number_from, unsigned_of};
+ghost use Rattle.station.specs.declared.failure.Failure.TheVariants.{Operand};
 
-use files::{NumberFault, read_number};
-use port::{Calibrator, Port};
+use crate::failure::Failure;
+use files::read_number;
+use port::{Calibrator, Port, SquareWave};
 use std::io;
 
 /// How many numbers are printed where the command does not say.
 const SHOWN: i32 = 20;
 
-/// Prints how many numbers wait, and the first of them.
-pub(crate) fn run_calibrate(rt: &HostRuntime, operands: &[String]) -> io::Result<bool> {
-    let [amplitude, half_period, count, more @ ..] = operands else {
-        return Ok(false);
+/// Prints how many numbers wait, and the first of them: as many as the word behind the three limits says.
+pub(crate) fn run_calibrate<'a>(
+    rt: &HostRuntime,
+    [amplitude, half_period, count]: [&'a String; 3],
+    more: &'a [String],
+) -> Result<(), Failure<'a>> {
+    let amplitude = read_operand("A", i32::MIN, amplitude.as_str())?;
+    let half_period = read_operand("H", i32::MIN, half_period.as_str())?;
+    let count = read_operand("K", i32::MIN, count.as_str())?;
+    let shown = match more {
+        [word, ..] => read_operand("N", 0, word.as_str())?,
+        [] => SHOWN,
     };
-    let Some(amplitude) = read_operand(rt, "A", i32::MIN, amplitude.as_str())? else {
-        return Ok(false);
-    };
-    let Some(half_period) = read_operand(rt, "H", i32::MIN, half_period.as_str())? else {
-        return Ok(false);
-    };
-    let Some(count) = read_operand(rt, "K", i32::MIN, count.as_str())? else {
-        return Ok(false);
-    };
-    let mut shown = SHOWN;
-    if let [word, ..] = more {
-        match read_operand(rt, "N", 0, word.as_str())? {
-            Some(number) => shown = number,
-            None => return Ok(false),
-        }
-    }
-    match Calibrator::new(amplitude, unsigned(half_period), unsigned(count)) {
-        Ok(calibrator) => print_waiting(rt, calibrator, shown),
-        Err(refusal) => {
-            println!(rt; "refused: {refusal}")?;
-            Ok(false)
-        }
-    }
+    let calibrator = Calibrator::new(SquareWave {
+        amplitude,
+        half_period: unsigned(half_period),
+        count: unsigned(count),
+    })?;
+    print_waiting(rt, calibrator, shown)?;
+    Ok(())
 }
 
-/// The number that a word writes, from `low` up; what is wrong with it is told.
-fn read_operand(rt: &HostRuntime, name: &str, low: i32, word: &str) -> io::Result<Option<i32>> {
-    match read_number(word.as_bytes(), low, i32::MAX) {
-        Ok(number) => Ok(Some(number)),
-        Err(NumberFault::NoNumber) => {
-            eprintln!(rt; "station: calibrate: {name}: {word} is no decimal number")?;
-            Ok(None)
-        }
-        Err(NumberFault::OutOfRange) => {
-            eprintln!(rt; "station: calibrate: {name}: {word} is out of range")?;
-            Ok(None)
-        }
-    }
+/// The number that a word writes, from `low` up.
+fn read_operand<'a>(name: &'static str, low: i32, word: &'a str) -> Result<i32, Failure<'a>>
+    ensures as_written { result ≡ result_map_both (λ z. z) (Operand name.entry word.entry) (number_from low word.now) }
+{
+    read_number(word.as_bytes(), low, i32::MAX).map_err(|fault| Failure::Operand {
+        name,
+        word,
+        fault,
+    })
 }
 
 /// The number, or one that is above every limit where it is below 0.
@@ -62,14 +53,11 @@ fn unsigned(number: i32) -> u32
 }
 
 /// Prints how many numbers wait, and the first of them, got one by one from the port.
-fn print_waiting(rt: &HostRuntime, mut calibrator: Calibrator, shown: i32) -> io::Result<bool> {
+fn print_waiting(rt: &HostRuntime, mut calibrator: Calibrator, shown: i32) -> io::Result<()> {
     let waiting = calibrator.waiting();
     println!(rt; "waiting: {waiting}")?;
-    for _ in 0..shown {
-        let Some(number) = calibrator.get() else {
-            break;
-        };
+    for number in (0..shown).map_while(|_| calibrator.get()) {
         println!(rt; "{number}")?;
     }
-    Ok(true)
+    Ok(())
 }

@@ -1,22 +1,25 @@
 //! The program of a station: what an engineer asks at the command line.
 //!
 //! It is thin. Files are read by `files`, procedures are tested by `procedure`, and each of these promises what it answers;
-//! here stand the commands and the lines that they print. A refusal or an error ends with status 1.
+//! here stand the commands and the lines that they print. What goes wrong is a `Failure`, told by `main` alone, and ends
+//! with status 1.
 #![tactic(auto)]
 
 mod calibrate;
+mod failure;
 mod report;
 #[cfg(test)]
 mod tests;
 mod verb;
 
 use calibrate::run_calibrate;
+use failure::Failure;
 use files::read_procedure;
 use procedure::Node;
 use report::{report_check, report_form};
 use std::process::ExitCode;
 use std::{env, fs, io};
-use verb::{UsageFault, Verb};
+use verb::Verb;
 
 const USAGE: &str = "\
 usage: station COMMAND
@@ -44,82 +47,81 @@ square wave of amplitude A, 0 to 8388607, half period H, 1 to 10000, and K numbe
 A refusal or an error ends with status 1.";
 
 fn main(rt: HostRuntime) -> ExitCode {
-    match run(&rt) {
-        Ok(true) => ExitCode::SUCCESS,
-        // what there is to tell has been printed
-        Ok(false) | Err(_) => ExitCode::FAILURE,
+    let Ok(words) = command_line(&rt) else {
+        return ExitCode::FAILURE;
+    };
+    match run(&rt, words.as_slice()) {
+        Ok(()) => ExitCode::SUCCESS,
+        Err(failure) => {
+            // a failure that cannot be told ends with the same status
+            let _ = tell(&rt, failure);
+            ExitCode::FAILURE
+        }
     }
 }
 
-/// Does what the command line asks, and says whether it succeeded.
-fn run(rt: &HostRuntime) -> io::Result<bool> {
-    let mut words = env::args(rt)?.skip(1);
-    let Some(word) = words.next() else {
+/// The words behind the program's name.
+fn command_line(rt: &HostRuntime) -> io::Result<Vec<String>> {
+    let words = env::args(rt)?.skip(1).collect(rt.alloc())?;
+    Ok(words)
+}
+
+/// Tells why the program does not succeed: a refusal is an answer, and is printed as answers are.
+fn tell(rt: &HostRuntime, failure: Failure) -> io::Result<()> {
+    match failure {
+        Failure::NotFormed(_) | Failure::NotPassed(_) | Failure::Unset(_) => rt.println(failure),
+        // where reading the command line or printing fails, nothing is printed
+        Failure::Io(_) => Ok(()),
+        _ => rt.eprintln(failure),
+    }
+}
+
+/// Does what the command line asks.
+fn run<'a>(rt: &HostRuntime, words: &'a [String]) -> Result<(), Failure<'a>> {
+    let [word, operands @ ..] = words else {
         rt.println(USAGE)?;
-        return Ok(true);
+        return Ok(());
     };
-    let operands: Vec<String> = words.collect(rt.alloc())?;
-    let Some(verb) = Verb::of_word(word.as_str()) else {
-        return complain(rt, word.as_str(), UsageFault::Unknown);
-    };
-    match verb.take(operands.len()) {
-        Err(fault) => complain(rt, word.as_str(), fault),
-        Ok(Verb::Help) => {
+    let word = word.as_str();
+    let verb = word
+        .parse::<Verb>()
+        .and_then(|verb| verb.take(operands.len()))
+        .map_err(|fault| Failure::Usage(word, fault))?;
+    match (verb, operands) {
+        (Verb::Help, _) => {
             rt.println(USAGE)?;
-            Ok(true)
+            Ok(())
         }
-        Ok(Verb::Form) => match operands.as_slice() {
-            [path] => run_form(rt, path.as_str()),
-            _ => Ok(false),
-        },
-        Ok(Verb::Check) => match operands.as_slice() {
-            [path] => run_check(rt, path.as_str()),
-            _ => Ok(false),
-        },
-        Ok(Verb::Calibrate) => run_calibrate(rt, operands.as_slice()),
+        (Verb::Form, [path]) => run_form(rt, path.as_str()),
+        (Verb::Check, [path]) => run_check(rt, path.as_str()),
+        (Verb::Calibrate, [amplitude, half_period, count, more @ ..]) => run_calibrate(
+            rt,
+            [amplitude, half_period, count],
+            more,
+        ),
+        // `take` lets no other number of words through
+        _ => unreachable!(),
     }
 }
 
-/// Tells what is wrong with the command line.
-fn complain(rt: &HostRuntime, word: &str, fault: UsageFault) -> io::Result<bool> {
-    eprintln!(rt; "station: {word}: {fault}; 'station help' lists the commands")?;
-    Ok(false)
-}
-
-/// The procedure in a file; what is wrong with the file is told.
-fn read_file(rt: &HostRuntime, path: &str) -> io::Result<Option<Vec<Node>>> {
-    let text = match fs::read(rt, path) {
-        Ok(text) => text,
-        Err(error) => {
-            eprintln!(rt; "station: {path}: cannot be read: {error}")?;
-            return Ok(None);
-        }
-    };
-    match read_procedure(rt.alloc(), text.as_slice()) {
-        Ok(nodes) => Ok(Some(nodes)),
-        Err(fault) => {
-            eprintln!(rt; "station: {path}: {fault}")?;
-            Ok(None)
-        }
-    }
+/// The procedure in a file.
+fn read_file<'a>(rt: &HostRuntime, path: &'a str) -> Result<Vec<Node>, Failure<'a>> {
+    let text = fs::read(rt, path).map_err(|error| Failure::Unread(path, error))?;
+    read_procedure(rt.alloc(), text.as_slice()).map_err(|fault| Failure::Faulty(path, fault))
 }
 
 /// `station form FILE`.
-fn run_form(rt: &HostRuntime, path: &str) -> io::Result<bool> {
-    let Some(nodes) = read_file(rt, path)? else {
-        return Ok(false);
-    };
-    let report = report_form(nodes.as_slice());
-    println!(rt; "{report}")?;
-    Ok(report.is_formed())
+fn run_form<'a>(rt: &HostRuntime, path: &'a str) -> Result<(), Failure<'a>> {
+    let nodes = read_file(rt, path)?;
+    let formed = report_form(nodes.as_slice())?;
+    println!(rt; "{formed}")?;
+    Ok(())
 }
 
-/// `station check FILE`.
-fn run_check(rt: &HostRuntime, path: &str) -> io::Result<bool> {
-    let Some(nodes) = read_file(rt, path)? else {
-        return Ok(false);
-    };
-    let report = report_check(nodes.as_slice());
-    println!(rt; "{report}")?;
-    Ok(report.is_passed())
+/// `station check FILE`. Beside `run_form`: a call by a bound that names a lifetime has no proof where `'static` is named too.
+fn run_check<'a>(rt: &HostRuntime, path: &'a str) -> Result<(), Failure<'a>> {
+    let nodes = read_file(rt, path)?;
+    let passed = report_check(nodes.as_slice())?;
+    println!(rt; "{passed}")?;
+    Ok(())
 }

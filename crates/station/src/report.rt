@@ -1,108 +1,138 @@
 //! What `station form` and `station check` tell of a table.
 ghost use Rattle.std.specs.Prelude.{◌≡◌, Some};
-ghost use Rattle.station.specs.Report.{form_report, is_formed, report_text, check_report, is_passed, check_text};
+ghost use Rattle.station.specs.Report.{form_report, refused_for, formed_text, rule_line, check_report, passed_text, kind_line, refused_text};
 
 use checker::{Declaration, Sheet, check};
+use procedure::limits::MAX_OPEN;
 use procedure::table::node_at;
-use procedure::types::Type;
-use procedure::{FormFault, Kind, Node, Refusal, Rule, find_form_fault, test_form};
+use procedure::{FormFault, Kind, Node, Refusal, Rule, find_form_fault};
 use std::fmt;
 
-/// Whether a table has the form of a procedure.
-#[derive(Drop)]
-pub enum FormReport {
-    /// It has, with so many nodes.
-    Formed(usize),
-    /// It has too many nodes, or none.
-    Refused(Refusal),
-    /// It breaks a rule.
-    Broken(Refusal, Rule),
+/// A table was refused: the refusal, and what a line beneath it tells.
+#[derive(Clone, Copy)]
+pub struct Refused<D> {
+    pub refusal: Refusal,
+    pub detail: Option<D>,
 }
 
-/// The form test, and the rule that is broken.
-pub fn report_form(nodes: &[Node]) -> FormReport
-    ensures reported { result ≡ form_report nodes.now }
-{
-    match test_form(nodes) {
-        Ok(()) => FormReport::Formed(nodes.len()),
-        Err(refusal) => match find_form_fault(nodes) {
-            Some(FormFault::Broken(rule, _)) => FormReport::Broken(refusal, rule),
-            Some(FormFault::Bulky) | None => FormReport::Refused(refusal),
-        },
-    }
-}
-
-impl FormReport {
-    /// Whether the table has the form of a procedure.
-    pub fn is_formed(&self) -> bool
-        ensures told { result ≡ is_formed self.now }
-    {
-        matches!(self, FormReport::Formed(_))
-    }
-}
-
-impl fmt::Display for FormReport {
-    ghost output = { λ x. Some (report_text x) };
+/// As `refused: ` and the refusal, and then the line beneath it.
+impl<D: fmt::Display> fmt::Display for Refused<D> {
+    ghost output = { refused_text D.output };
 
     fn fmt<W: fmt::Write>(&self, f: &mut fmt::Formatter<W>) -> fmt::Result {
-        match *self {
-            FormReport::Formed(count) => write!(f, "formed: {count} nodes"),
-            FormReport::Refused(refusal) => write!(f, "refused: {refusal}"),
-            FormReport::Broken(refusal, rule) => write!(f, "refused: {refusal}\nrule {rule}"),
+        let refusal = self.refusal;
+        match &self.detail {
+            None => write!(f, "refused: {refusal}"),
+            Some(detail) => write!(f, "refused: {refusal}\n{detail}"),
         }
     }
 }
 
-/// Whether a procedure passes the check.
-#[derive(Drop)]
-pub enum CheckReport {
-    /// It does, and needs this.
-    Passed(Sheet),
-    /// It does not; the node told is of no listed kind.
-    Refused(Refusal),
-    /// It does not; the node told is of this kind.
-    RefusedAt(Refusal, Kind),
+/// A table that has the form of a procedure: how many nodes it has.
+#[derive(Clone, Copy)]
+pub struct Formed {
+    pub nodes: usize,
 }
 
-/// The check, and the kind of the node told.
-pub fn report_check(nodes: &[Node]) -> CheckReport
-    ensures reported { result ≡ check_report nodes.now }
-{
-    let mut places = [Declaration {
-        name: 0,
-        of_type: Type::Integer,
-        constant: false,
-    }; 256];
-    match check(nodes, &mut places) {
-        Ok(sheet) => CheckReport::Passed(sheet),
-        Err(refusal) => match Kind::of_number(node_at(nodes, refusal.node).kind) {
-            Some(kind) => CheckReport::RefusedAt(refusal, kind),
-            None => CheckReport::Refused(refusal),
-        },
-    }
-}
-
-impl CheckReport {
-    /// Whether the procedure passes.
-    pub fn is_passed(&self) -> bool
-        ensures told { result ≡ is_passed self.now }
-    {
-        matches!(self, CheckReport::Passed(_))
-    }
-}
-
-impl fmt::Display for CheckReport {
-    ghost output = { λ x. Some (check_text x) };
+/// As `formed: 26 nodes`.
+impl fmt::Display for Formed {
+    ghost output = { λ x. Some (formed_text x) };
 
     fn fmt<W: fmt::Write>(&self, f: &mut fmt::Formatter<W>) -> fmt::Result {
-        match *self {
-            CheckReport::Passed(sheet) => write!(f, "passed: {sheet}"),
-            CheckReport::Refused(refusal) => write!(f, "refused: {refusal}"),
-            CheckReport::RefusedAt(refusal, kind) => {
-                let node = refusal.node;
-                let word = kind.word();
-                write!(f, "refused: {refusal}\nnode {node}: {word}")
-            }
+        let nodes = self.nodes;
+        write!(f, "formed: {nodes} nodes")
+    }
+}
+
+/// The rule that a table breaks.
+#[derive(Clone, Copy)]
+pub struct BrokenRule {
+    pub rule: Rule,
+}
+
+/// As `rule ordered: ` and then the sentence.
+impl fmt::Display for BrokenRule {
+    ghost output = { λ x. Some (rule_line x) };
+
+    fn fmt<W: fmt::Write>(&self, f: &mut fmt::Formatter<W>) -> fmt::Result {
+        let rule = self.rule;
+        write!(f, "rule {rule}")
+    }
+}
+
+/// What is told of a fault of the form: a table with too many nodes, or none, breaks no rule.
+impl From<FormFault> for Refused<BrokenRule> {
+    ghost from_gives = { λ fault r. r ≡ refused_for fault };
+
+    fn from(fault: FormFault) -> Refused<BrokenRule> {
+        let detail = match fault {
+            FormFault::Bulky => None,
+            FormFault::Broken(rule, _) => Some(BrokenRule { rule }),
+        };
+        Refused {
+            refusal: fault.into(),
+            detail,
+        }
+    }
+}
+
+/// The form test, and the rule that is broken.
+pub fn report_form(nodes: &[Node]) -> Result<Formed, Refused<BrokenRule>>
+    ensures reported { result ≡ form_report nodes.now }
+{
+    // What was searched for is the error here.
+    match find_form_fault(nodes) {
+        None => Ok(Formed { nodes: nodes.len() }),
+        Some(fault) => Err(fault.into()),
+    }
+}
+
+/// A procedure that passes the check: what it needs.
+#[derive(Clone, Copy)]
+pub struct Passed {
+    pub sheet: Sheet,
+}
+
+/// As `passed: ceiling 35, rows 9, frames 3`.
+impl fmt::Display for Passed {
+    ghost output = { λ x. Some (passed_text x) };
+
+    fn fmt<W: fmt::Write>(&self, f: &mut fmt::Formatter<W>) -> fmt::Result {
+        let sheet = self.sheet;
+        write!(f, "passed: {sheet}")
+    }
+}
+
+/// The kind of a node.
+#[derive(Clone, Copy)]
+pub struct NodeKind {
+    pub node: u16,
+    pub kind: Kind,
+}
+
+/// As `node 7: PUT`.
+impl fmt::Display for NodeKind {
+    ghost output = { λ x. Some (kind_line x) };
+
+    fn fmt<W: fmt::Write>(&self, f: &mut fmt::Formatter<W>) -> fmt::Result {
+        let node = self.node;
+        let kind = self.kind;
+        write!(f, "node {node}: {kind}")
+    }
+}
+
+/// The check, and the kind of the node that is refused; of a node of no listed kind, no kind is told.
+pub fn report_check(nodes: &[Node]) -> Result<Passed, Refused<NodeKind>>
+    ensures reported { result ≡ check_report nodes.now }
+{
+    let mut places = [Declaration::BLANK; MAX_OPEN];
+    match check(nodes, &mut places) {
+        Ok(sheet) => Ok(Passed { sheet }),
+        Err(refusal) => {
+            let node = refusal.node;
+            let kind = node_at(nodes, node).listed_kind();
+            let detail = kind.map(|kind| NodeKind { node, kind });
+            Err(Refused { refusal, detail })
         }
     }
 }

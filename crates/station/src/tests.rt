@@ -1,21 +1,24 @@
 //! The form test at both ends of its limits, on tables that are made here.
-use crate::report::{FormReport, report_form};
-use procedure::Node;
+use crate::report::report_form;
+use procedure::{Node, Refusal};
 use std::alloc::{AllocError, Global};
 use std::test::Fail;
 
 fn summary(heap: Global, nodes: &[Node]) -> Result<String, AllocError> {
     match report_form(nodes) {
-        FormReport::Formed(count) => format!(in heap; "formed {count}"),
-        FormReport::Refused(refusal) => {
-            let word = refusal.reason.word();
-            let node = refusal.node;
-            format!(in heap; "{word} {node}")
+        Ok(formed) => {
+            let count = formed.nodes;
+            format!(in heap; "formed {count}")
         }
-        FormReport::Broken(refusal, rule) => {
-            let word = rule.word();
-            let node = refusal.node;
-            format!(in heap; "{word} {node}")
+        Err(refused) => {
+            let Refusal { reason, node } = refused.refusal;
+            match refused.detail {
+                Some(broken) => {
+                    let word = broken.rule.word();
+                    format!(in heap; "{word} {node}")
+                }
+                None => format!(in heap; "{reason} {node}"),
+            }
         }
     }
 }
@@ -70,34 +73,18 @@ fn nested(heap: Global, levels: u16) -> Result<Vec<Node>, AllocError> {
 #[test]
 fn both_ends(rt: HostRuntime) -> Result<(), Fail> {
     let heap = rt.alloc();
-    assert_eq!(rt;
-        summary(heap, listed(heap, 2)?.as_slice())?.as_str(),
-        "formed 2"
-    );
-    assert_eq!(rt;
-        summary(heap, listed(heap, 1024)?.as_slice())?.as_str(),
-        "formed 1024"
-    );
-    assert_eq!(rt;
-        summary(heap, listed(heap, 1025)?.as_slice())?.as_str(),
-        "bulky 0"
-    );
-    assert_eq!(rt;
-        summary(heap, deep(heap, 32)?.as_slice())?.as_str(),
-        "formed 34"
-    );
-    assert_eq!(rt;
-        summary(heap, deep(heap, 33)?.as_slice())?.as_str(),
-        "shallow 2"
-    );
-    assert_eq!(rt;
-        summary(heap, nested(heap, 32)?.as_slice())?.as_str(),
-        "formed 33"
-    );
-    assert_eq!(rt;
-        summary(heap, nested(heap, 33)?.as_slice())?.as_str(),
-        "shallow 33"
-    );
+    let cases = [
+        (listed(heap, 2)?, "formed 2"),
+        (listed(heap, 1024)?, "formed 1024"),
+        (listed(heap, 1025)?, "bulky 0"),
+        (deep(heap, 32)?, "formed 34"),
+        (deep(heap, 33)?, "shallow 2"),
+        (nested(heap, 32)?, "formed 33"),
+        (nested(heap, 33)?, "shallow 33"),
+    ];
+    for (nodes, wanted) in &cases {
+        assert_eq!(rt; summary(heap, nodes.as_slice())?.as_str(), *wanted);
+    }
     Ok(())
 }
 

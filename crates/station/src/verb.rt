@@ -1,11 +1,13 @@
 //! The commands of the program: their words, and how many words follow each.
-ghost use Rattle.std.specs.Prelude.{◌≡◌, MatchOption, ◌≢◌};
-ghost use Rattle.station.specs.Verb.{word_of, operands_of, taken};
+ghost use Rattle.std.specs.Prelude.{◌≡◌, Some};
+ghost use Rattle.station.specs.Verb.{Spells, operands_of, taken, usage_text};
 
+use std::error::Error;
 use std::fmt;
+use std::str::FromStr;
 
 /// A command.
-#[derive(Clone, Copy)]
+#[derive(Clone, Copy, PartialEq, Eq, Debug)]
 pub enum Verb {
     Help,
     Form,
@@ -13,15 +15,15 @@ pub enum Verb {
     Calibrate,
 }
 
-/// How many words may follow a command.
-#[derive(Clone, Copy)]
+/// How many words may follow a command. Which of the two bounds is passed says what is wrong.
+#[derive(Clone, Copy, PartialEq, Eq, Debug)]
 pub struct Operands {
     pub fewest: usize,
     pub most: usize,
 }
 
 /// Why a command line asks for nothing that the program does.
-#[derive(Clone, Copy)]
+#[derive(Clone, Copy, PartialEq, Eq, Debug)]
 pub enum UsageFault {
     /// The word stands for no command.
     Unknown,
@@ -32,6 +34,8 @@ pub enum UsageFault {
 }
 
 impl fmt::Display for UsageFault {
+    ghost output = { λ x. Some (usage_text x) };
+
     fn fmt<W: fmt::Write>(&self, f: &mut fmt::Formatter<W>) -> fmt::Result {
         match self {
             UsageFault::Unknown => write!(f, "there is no such command"),
@@ -41,24 +45,26 @@ impl fmt::Display for UsageFault {
     }
 }
 
-impl Verb {
-    /// The command that a word stands for.
-    pub fn of_word(word: &str) -> Option<Verb>
-        ensures spelled { MatchOption result ((v : Verb) → word.now ≢ word_of v) (λ v. word.now ≡ word_of v) }
-    {
-        if word == "help" {
-            Some(Verb::Help)
-        } else if word == "form" {
-            Some(Verb::Form)
-        } else if word == "check" {
-            Some(Verb::Check)
-        } else if word == "calibrate" {
-            Some(Verb::Calibrate)
-        } else {
-            None
+impl Error for UsageFault {}
+
+/// The command that a word stands for.
+impl FromStr for Verb {
+    type Err = UsageFault;
+
+    ghost from_str_gives = { Spells };
+
+    fn from_str(word: &str) -> Result<Verb, UsageFault> {
+        match word {
+            "help" => Ok(Verb::Help),
+            "form" => Ok(Verb::Form),
+            "check" => Ok(Verb::Check),
+            "calibrate" => Ok(Verb::Calibrate),
+            _ => Err(UsageFault::Unknown),
         }
     }
+}
 
+impl Verb {
     /// How many words may follow the command.
     pub fn operands(self) -> Operands
         ensures counted { result ≡ operands_of self }

@@ -6,12 +6,8 @@ use super::{Run, Shown};
 impl Run {
     /// How far the run has come, and how many rows and frames it holds.
     pub fn shown(&self) -> Shown
-        ensures shown { result ≡ record { progress = self.now.progress; rows = self.now.rows; frames = self.now.frames } }
+        ensures shown { result ≡ self.now.shown }
     {
-        Shown {
-            progress: self.progress,
-            rows: self.rows,
-            frames: self.frames,
-        }
+        self.shown
     }
 }

@@ -7,7 +7,7 @@ use Rattle.checker.proofs.declarations.walk_declarations.Given as goal
 
 abbrev pub invariant-loop-rest : goal.invariant-loop-rest
 invariant-loop-rest l =
-    (costing l.cost (declarations l._rest l.nodes l.base (opened l.count l.places) l.at)
-    ≡ declarations l.left l.nodes l.base (opened l.initial.count l.initial.places) l.n)
-    × Grown l.initial.count l.initial.places l.count l.places
+    (costing l.cost (declarations l._rest l.nodes l.base (opened l.declared) l.at)
+    ≡ declarations l.left l.nodes l.base (opened l.initial.declared) l.n)
+    × Grown l.initial.declared l.declared
     × (l.cost + l._rest ≤ l.left)

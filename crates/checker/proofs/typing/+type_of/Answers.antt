@@ -1,31 +1,10 @@
--- Each way out is one level of the definition.
+-- What an operator gives is one level of the definition.
 use Rattle.std.proofs.Common.{rules}
-use Rattle.checker.proofs.Unrolled.{typed_unrolled, typed-none}
+use Rattle.checker.proofs.Unrolled.{typed_unrolled}
 use Rattle.checker.proofs.typing.+type_of.Goals as goal
-
-pub returns-in_default : goal.returns-in_default
-returns-in_default t c = search (rules, typed_unrolled)
-
-pub returns-in_err-operand-in-Unary : goal.returns-in_err-operand-in-Unary
-returns-in_err-operand-in-Unary t c = search (rules, typed_unrolled)
-
-pub returns-in_err-left-in-Binary : goal.returns-in_err-left-in-Binary
-returns-in_err-left-in-Binary t c = search (rules, typed_unrolled)
-
-pub returns-in_err-right-in-Binary : goal.returns-in_err-right-in-Binary
-returns-in_err-right-in-Binary t c = search (rules, typed_unrolled)
-
-pub returns-in-Numeral : goal.returns-in-Numeral
-returns-in-Numeral t c = search (rules, typed_unrolled)
-
-pub returns-in-Name : goal.returns-in-Name
-returns-in-Name t c = search (rules, typed_unrolled)
 
 pub returns-in_ok-operand-in-Unary : goal.returns-in_ok-operand-in-Unary
 returns-in_ok-operand-in-Unary t c = search (rules, typed_unrolled)
 
 pub returns-in_ok-right-in-Binary : goal.returns-in_ok-right-in-Binary
 returns-in_ok-right-in-Binary t c = search (rules, typed_unrolled)
-
-pub returns-then-levels-eq0 : goal.returns-then-levels-eq0
-returns-then-levels-eq0 t c = search (rules, typed-none)

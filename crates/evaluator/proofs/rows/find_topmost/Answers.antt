@@ -1,13 +1,10 @@
--- One row further down.
-use Rattle.std.proofs.Common.{rules}
-use Rattle.stack.proofs.Newest.{newest_laws}
+-- No place, or the row at the place.
+use Rattle.std.proofs.Common.{rules, Some, None}
+use Rattle.evaluator.proofs.Topmost.{topmost_at}
 use Rattle.evaluator.proofs.rows.find_topmost.Goals as goal
 
-pub returns-then-rows-place : goal.returns-then-rows-place
-returns-then-rows-place c = search (rules, newest_laws)
-
-pub loop-place-preserved : goal.loop-place-preserved
-loop-place-preserved c = search (rules, newest_laws)
+pub returns-in_err-place : goal.returns-in_err-place
+returns-in_err-place c = let none = topmost_at c.args.name c.args.rows.now None c.in_err-place.ensures.place in search rules
 
 pub returns : goal.returns
-returns c = search (rules, newest_laws)
+returns c = let some = topmost_at c.args.name c.args.rows.now (Some c.in_ok-place.place) c.in_ok-place.ensures.place in search rules

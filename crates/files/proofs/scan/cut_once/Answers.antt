@@ -1,18 +1,20 @@
--- The front and the back, at the first separator and at the end.
-use Rattle.std.proofs.Common.{sym, rules}
-use Rattle.std.proofs.lemmas.List.{take_rest, drop_all}
-use Rattle.files.proofs.Cuts.{passed-more, passed_to_cut, passed-all}
+-- The front and the back, at the first separator and where there is none.
+use Rattle.std.proofs.Common.{sym, ◌∙◌, rules, tests}
+use Rattle.std.proofs.lemmas.List.{take_rest}
+use Rattle.std.proofs.lemmas.Iterator.{YieldsList-from_slice}
+use Rattle.std.proofs.lemmas.Iterator.Search.{position_from_yields_List}
+use Rattle.files.specs.Scan.{cuts}
+use Rattle.files.proofs.Cuts.{cut_here, cut_nowhere}
 use Rattle.files.proofs.scan.cut_once.Goals as goal
 
-pub returns-then-is : goal.returns-then-is
-returns-then-is c =
-    let cut = passed_to_cut _ _ _ c.loop-i.invariant c.loop-i-test.true (sym c.if-is.ensures.tells) in
-    record { front = search rules; back = search (rules, take_rest) }
+pub returns-in-Some : goal.returns-in-Some
+returns-in-Some c =
+    let found = position_from_yields_List (cuts c.args.separator) _ _ c.position.result c.position.ensures.ran (YieldsList-from_slice c.args.text.now cc) (λ x b q k. search (rules, tests)) in
+    let cut = cut_here c.args.separator c.args.text.now c.in-Some.i (sym c.in-Some.is ∙ found) in
+    search (rules, take_rest)
 
-pub loop-i-preserved : goal.loop-i-preserved
-loop-i-preserved c = passed-more _ _ _ c.loop-i.invariant c.loop-i-test.true (sym c.if-is.ensures.tells)
-
-pub returns : goal.returns
-returns c =
-    let all = passed-all _ _ _ c.loop-i.invariant c.loop-i-test.false in
-    record { front = all.0; back = search (rules, take_rest, drop_all) }
+pub returns-in-None : goal.returns-in-None
+returns-in-None c =
+    let found = position_from_yields_List (cuts c.args.separator) _ _ c.position.result c.position.ensures.ran (YieldsList-from_slice c.args.text.now cc) (λ x b q k. search (rules, tests)) in
+    let cut = cut_nowhere c.args.separator c.args.text.now (sym c.in-None.is ∙ found) in
+    search rules

@@ -1,16 +1,10 @@
--- One value more.
-use Rattle.std.proofs.Common.{arith, rules}
-use Rattle.machine.proofs.Parameters.{as_many_more, fitting-more, fitting-all}
+-- Nothing is left to be tested.
+use Rattle.std.proofs.Common.{sym, ◌∙◌}
+use Rattle.std.specs.Iterator.Adapters.{zip_first, zip_second}
+use Rattle.machine.proofs.ParameterLists.{fitting-over}
 use Rattle.machine.proofs.begin.test_values.Goals as goal
 
-pub returns-in_err-demand : goal.returns-in_err-demand
-returns-in_err-demand c = let fit = fitting-more _ _ _ _ c.loop-value.invariant.0 (omega arith) in search rules
-
-pub loop-value-preserved : goal.loop-value-preserved
-loop-value-preserved c =
-    let fit = fitting-more _ _ _ _ c.loop-value.invariant.0 (omega arith) in
-    let count = as_many_more _ _ _ _ c.loop-value.invariant.0 (omega arith) in
-    search rules
-
 pub returns : goal.returns
-returns c = search (rules, fitting-all)
+returns c =
+    let l = c.loop-n.n-iterator in
+    record { fitting = sym (fitting-over c.args.nodes.now (zip_first l) (zip_second l) c.in-None.ensures.steps) ∙ c.loop-n.invariant }

@@ -1,10 +1,11 @@
--- The values from here on fit their parameters exactly if all fit.
-use Rattle.std.proofs.Common.{◌≡◌, drop}
-use Rattle.machine.specs.Begin.{parameters, fitting}
-use Rattle.machine.proofs.Parameters.{rest, AsMany}
+-- The values left fit the parameters left exactly if all fit.
+use Rattle.std.proofs.Common.{◌≡◌}
+use Rattle.std.specs.Iterator.Adapters.{zip_first, zip_second}
+use Rattle.std.specs.Slice.Iter.{iter_rest}
+use Rattle.machine.specs.Begin.{parameters, parameters_left, fitting}
 use Rattle.machine.proofs.begin.test_values.Given as goal
 
-abbrev pub invariant-loop-value : goal.invariant-loop-value
-invariant-loop-value l =
-    AsMany l.value-index l.nodes l.n l.values
-    × (fitting l.nodes (rest l.value-index l.nodes l.n) (drop l.value-index l.values) ≡ fitting l.nodes (parameters l.nodes) l.values)
+abbrev pub invariant-loop-n : goal.invariant-loop-n
+invariant-loop-n l =
+    fitting l.nodes (parameters_left (zip_first l.n-iterator)) (iter_rest (zip_second l.n-iterator))
+    ≡ fitting l.nodes (parameters l.nodes) l.values

@@ -1,4 +1,4 @@
--- The calls so far were made, and what they answered stands in the first places.
+-- The calls left end where all end, their replies go behind those so far, and the places from there on are as they were.
 use Rattle.std.proofs.Common.{◌≡◌, ◌++◌, take, drop}
 use Rattle.machine.specs.Go.{state_of}
 use Rattle.soundness.specs.Sound.{after_calls}
@@ -9,5 +9,7 @@ abbrev pub invariant-loop-i : goal.invariant-loop-i
 invariant-loop-i g l =
     let meaning = g.P.Port.meaning in
     let begun = state_of l.initial.run l.initial.rows l.initial.frames (meaning l.initial.port) in
-    (state_of l.run l.rows l.frames (meaning l.port) ≡ after_calls l.nodes (take l.i l.calls) begun)
-    × (l.replies ≡ replies_to l.nodes (take l.i l.calls) begun ++ drop l.i l.initial.replies)
+    let s = state_of l.run l.rows l.frames (meaning l.port) in
+    (after_calls l.nodes (drop l.i l.calls) s ≡ after_calls l.nodes l.calls begun)
+    × (take l.i l.replies ++ replies_to l.nodes (drop l.i l.calls) s ≡ replies_to l.nodes l.calls begun)
+    × (drop l.i l.replies ≡ drop l.i l.initial.replies)

@@ -11,8 +11,8 @@ returns-in-NoNumber-clause-writes g c = simp c.in-NoNumber.is (search rules)
 
 pub returns-in-OutOfRange-clause-writes : goal.returns-in-OutOfRange-clause-writes
 returns-in-OutOfRange-clause-writes g c =
-    let low = to_z-of_z w32 c.low-low.result (search rules) ∙ c.low-low.ensures.least in
-    let high = to_z-of_z w32 c.high-high.result (search rules) ∙ c.high-high.ensures.greatest in
+    let low = to_z-of_z w32 c.described-low.result.low (search rules) ∙ c.described-low.ensures.least in
+    let high = to_z-of_z w32 c.described-low.result.high (search rules) ∙ c.described-low.ensures.greatest in
     simp c.in-OutOfRange.is (simp (low, high) at c.write-in-OutOfRange.ensures.writes)
 
 pub returns-in-Extra-clause-writes : goal.returns-in-Extra-clause-writes

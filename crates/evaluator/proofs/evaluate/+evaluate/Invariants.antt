@@ -1,5 +1,0 @@
--- The levels left fall.
-use Rattle.evaluator.proofs.evaluate.+evaluate.Given as goal
-
-abbrev pub decreases-evaluate : goal.decreases-evaluate
-decreases-evaluate l = l.levels

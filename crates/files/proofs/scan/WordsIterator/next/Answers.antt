@@ -1,0 +1,10 @@
+-- The first piece that is not empty.
+use Rattle.std.proofs.Common.{rules, tests}
+use Rattle.files.specs.Scan.{words_left}
+use Rattle.files.proofs.Cuts.{finds_word, goes_on}
+use Rattle.files.proofs.scan.WordsIterator.next.Goals as goal
+
+pub returns : goal.returns
+returns c =
+    let steps = finds_word _ _ (λ x b q k. search (rules, tests)) c.args.self.now.pieces c.find.new.self c.find.result c.find.ensures.ran in
+    record { steps = steps; goes = goes_on (λ x. x.now) words_left (λ _. tt) _ _ _ steps }

@@ -1,7 +1,0 @@
--- What is found is the lowest so far that lies too deep.
-use Rattle.std.proofs.Common.{◌≡◌}
-use Rattle.procedure.specs.Form.{lowest, too_deep}
-use Rattle.procedure.proofs.form.lowest_too_deep.Given as goal
-
-abbrev pub invariant-loop-n : goal.invariant-loop-n
-invariant-loop-n l = l.found ≡ lowest (too_deep l.nodes) l.n

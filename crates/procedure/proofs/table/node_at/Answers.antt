@@ -1,7 +1,0 @@
--- Beyond the table the node is blank.
-use Rattle.std.proofs.Common.{rules}
-use Rattle.std.proofs.lemmas.List.{get_or_past}
-use Rattle.procedure.proofs.table.node_at.Goals as goal
-
-pub returns-in-None : goal.returns-in-None
-returns-in-None c = search (rules, get_or_past)

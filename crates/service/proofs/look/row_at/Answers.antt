@@ -1,7 +1,0 @@
--- A slice's item is the list's.
-use Rattle.std.proofs.Common.{rules}
-use Rattle.std.proofs.lemmas.Option.{slice_get-get_or, slice_get_past}
-use Rattle.service.proofs.look.row_at.Goals as goal
-
-pub returns : goal.returns
-returns c = search (rules, slice_get-get_or, slice_get_past)
