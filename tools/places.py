@@ -88,6 +88,7 @@ def main():
 
     print("\n3. loops by hand")
     for path, name, signature, contract, body in found:
+        body = re.sub(r"//.*", "", body)
         for at in re.finditer(r"for (\w+) in ([^\n{]*\.\.[^\n{]*)\{", body):
             i = at.group(1)
             used = re.search(r"\[" + i + r"\b|\b\w+\[[^\]]*\b" + i + r"\b", body[at.end() :])

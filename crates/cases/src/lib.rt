@@ -30,7 +30,8 @@ pub fn read_case_line(line: &str) -> CaseLine<'_>
     }
 }
 
-/// Reports on each case of the file, by what it shows and its nodes. A line that is no node is told where it stands.
+/// Reports on each case of the file, by what it shows and its nodes; one that shows nothing is passed over. A line that is no node
+/// is told beneath its case.
 pub fn report_cases<F: FnMut(&str, &[Node]) -> io::Result<()>>(
     rt: &(impl Files + Print + AllocGlobal),
     path: &str,

@@ -1,6 +1,6 @@
 -- An expression has a type exactly by the rules, and else its first fault is theirs.
 use Rattle.std.proofs.Common.{◌≡◌, ℕ, zero, suc, Bool, true, false, is_some, Some, None, Ok, Err, Option, sym, refl, ap, ◌∙◌, subst, arith}
-use Rattle.std.proofs.lemmas.Bool.{false≢true}
+use Rattle.std.proofs.lemmas.Bool.{false≢true, false_from_ne_true}
 use Rattle.procedure.specs.declared.kind.Kind.{Kind}
 use Rattle.procedure.specs.declared.kind.Kind.TheVariants.{Procedure, Declaration, Statement, Expression}
 use Rattle.procedure.specs.declared.kind.ExpressionKind.TheVariants.{Numeral, Name, Unary, Binary}
@@ -30,10 +30,7 @@ use Rattle.checker.proofs.Shapes.{fields, Expressed, expressed_operand, levels_l
 
 -- Two types are one, or not.
 pub same_true : (x y : TypeT) → same_type x y ≡ true → x ≡ y
-same_true Integer Integer e = refl
-same_true Integer Boolean e = absurd (false≢true e)
-same_true Boolean Integer e = absurd (false≢true e)
-same_true Boolean Boolean e = refl
+same_true x y e = grind (arith, e)
 
 pub same_self : (x : TypeT) → same_type x x ≡ true
 same_self Integer = refl
@@ -43,11 +40,7 @@ pub same_false : (x y : TypeT) → same_type x y ≡ false → x ≡ y → ⊥
 same_false x y e h = false≢true (sym e ∙ ap (same_type x) (sym h) ∙ same_self x)
 
 pub different : (x y : TypeT) → (x ≡ y → ⊥) → same_type x y ≡ false
-different x y n = go (same_type x y) refl
-  where
-    go : (b : Bool) → same_type x y ≡ b → same_type x y ≡ false
-    go true e = absurd (n (same_true x y e))
-    go false e = e
+different x y n = false_from_ne_true (same_type x y) (λ e. n (same_true x y e))
 
 pub some_of : {A : Type 0} (o : Option A) → is_some o ≡ true → (x : A) × (o ≡ Some x)
 some_of (Some x) e = (x, refl)

@@ -2,7 +2,7 @@ mod Unrolled
 mod Capping
 mod InTurn
 mod Named
-mod Shapes
+pub mod Shapes
 pub mod Chains
 mod Scopes
 pub mod Expressions

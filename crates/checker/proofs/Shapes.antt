@@ -20,7 +20,7 @@ use Rattle.procedure.specs.Layout.{layout}
 use Rattle.procedure.specs.Level.{level, level_by}
 use Rattle.procedure.specs.Naming.{naming, is_once}
 use Rattle.procedure.specs.Rules.{fits, in_order, part_holds, part_in_order, number_holds, values_hold, name_holds}
-use Rattle.procedure.specs.Table.{Table, node, blank, part, standing, standing_of, layout_at, is_procedure, is_expression, is_declaration, is_local, is_statement}
+use Rattle.procedure.specs.Table.{Table, node, blank, part, standing, standing_of, layout_at, is_expression, is_declaration, is_local, is_statement}
 use Rattle.procedure.specs.Tree.{Refers, by_a, by_b, by_c, by_next, Names}
 use Rattle.procedure.proofs.Levels.{level_law}
 use Rattle.procedure.proofs.Namings.{named_only_by}
@@ -50,16 +50,12 @@ kind_in (ADeclaration k) = Some (Declaration k)
 kind_in (AStatement k) = Some (Statement k)
 kind_in (AnExpression k) = Some (Expression k)
 
+kind_of_standing : (o : Option Kind) → o ≡ kind_in (standing_of o)
+kind_of_standing o = grind arith
+
 part_is : (t : Table) (n : ℕ) → part t n ≡ kind_in (standing t n)
 part_is t zero = refl
-part_is t (suc n) = go (kind_of (node t (suc n)).kind)
-  where
-    go : (o : Option Kind) → o ≡ kind_in (standing_of o)
-    go None = refl
-    go (Some Procedure) = refl
-    go (Some (Declaration k)) = refl
-    go (Some (Statement k)) = refl
-    go (Some (Expression k)) = refl
+part_is t (suc n) = kind_of_standing (kind_of (node t (suc n)).kind)
 
 pub part-statement : (t : Table) (n : ℕ) (k : StatementKind) → standing t n ≡ AStatement k → part t n ≡ Some (Statement k)
 part-statement t n k q = part_is t n ∙ ap kind_in q
@@ -133,14 +129,7 @@ pub fields : (t : Table) → Formed t → (n : ℕ) (k : Kind) → part t n ≡ 
 fields t w n k q = fields_of t w n (Some k) (within t n k q).1 (kind-part t n k q)
 
 is_root : (t : Table) → Formed t → kind_of (node t 0).kind ≡ Some Procedure
-is_root t w = go (kind_of (node t 0).kind) (holds t 0 (w.obeys 0 w.some)).rooted_at
-  where
-    go : (o : Option Kind) → is_procedure o ≡ true → o ≡ Some Procedure
-    go None e = absurd (false≢true e)
-    go (Some Procedure) e = refl
-    go (Some (Declaration k)) e = absurd (false≢true e)
-    go (Some (Statement k)) e = absurd (false≢true e)
-    go (Some (Expression k)) e = absurd (false≢true e)
+is_root t w = let e = (holds t 0 (w.obeys 0 w.some)).rooted_at in grind (arith, e)
 
 pub root-fields : (t : Table) → Formed t → Fields t 0 (layout (Some Procedure))
 root-fields t w = fields_of t w 0 (Some Procedure) w.some (is_root t w)
@@ -254,11 +243,7 @@ beyond n p e h = go (or_cases (eqb p 0) (ltb n p) e)
     go (inr l) = ltb-true n p l
 
 local-declared : (o : Option Kind) → is_local o ≡ true → is_declaration o ≡ true
-local-declared None e = absurd (false≢true e)
-local-declared (Some Procedure) e = absurd (false≢true e)
-local-declared (Some (Declaration k)) e = refl
-local-declared (Some (Statement k)) e = absurd (false≢true e)
-local-declared (Some (Expression k)) e = absurd (false≢true e)
+local-declared o e = grind (arith, e)
 
 locals_fit : (t : Table) (m : ℕ) → fits t Locals m ≡ true → fits t Declarations m ≡ true
 locals_fit t m e = go (or_cases (eqb m 0) (is_local (part t m)) e)

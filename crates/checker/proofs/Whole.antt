@@ -1,6 +1,6 @@
 -- The check passes exactly what is allowed, and refuses rightly.
 use Rattle.std.proofs.Common.{◌≡◌, ℕ, ◌+◌, ◌<◌, ◌≤◌, true, false, eqb, ltb, leb, ◌⊎◌, ◌↔◌, [], length, None, Ok, Err, Option, sym, refl, ap, ◌∙◌, subst, inl, inr, arith, MatchResult}
-use Rattle.std.proofs.lemmas.Bool.{eqb-true, ne_eqb, leb-true, leb-false, le-leb, lt-leb, ltb-true, le-ltb, lt-ltb, eq-eqb, not-true, not-false, not_from_false, not_from_true, cases_lt, or_cases, or_left, or_right, or_from, both_ways}
+use Rattle.std.proofs.lemmas.Bool.{ne_eqb, leb-true, leb-false, le-leb, lt-leb, le-ltb, lt-ltb, eq-eqb, not-true, not-false, not_from_false, not_from_true, cases_lt, or_left, or_right, or_from, both_ways}
 use Rattle.procedure.specs.declared.refusal.Reason.{Reason}
 use Rattle.procedure.specs.declared.refusal.Reason.TheVariants.{Bulky, Misshapen, Taken, Unmarked, Unknown, Mismatched, Fixed, Overlong, Cramped, Miscounted, Unfit, Short, Overdrawn, Over, Absent, Unset}
 use Rattle.procedure.specs.declared.refusal.Refusal.{Refusal}
@@ -12,7 +12,7 @@ use Rattle.procedure.specs.Rules.{broken_rule}
 use Rattle.procedure.specs.Refusal.{refusal_at}
 use Rattle.procedure.specs.Sequence.{Answer}
 use Rattle.procedure.specs.Table.{Table, node}
-use Rattle.procedure.proofs.Verdicts.{judged as form_judged}
+use Rattle.procedure.proofs.Verdicts.{judged as form_judged, some_of}
 use Rattle.checker.specs.declared.answer.Sheet.{Sheet}
 use Rattle.checker.specs.Allowed.{standard, begin_region, Allowed}
 use Rattle.checker.specs.Cost.{exact}
@@ -77,14 +77,7 @@ fresh_to x e = let h = leb-false x 16 e in le-leb 17 x (omega arith)
 
 -- the number of nodes
 size_of : (t : Table) → is_bulky t ≡ true → (length t ≡ 0) ⊎ (1024 < length t)
-size_of t e = go (or_cases (eqb (length t) 0) (ltb 1024 (length t)) e)
-  where
-    go : (eqb (length t) 0 ≡ true) ⊎ (ltb 1024 (length t) ≡ true) → (length t ≡ 0) ⊎ (1024 < length t)
-    go (inl z) = inl (eqb-true (length t) 0 z)
-    go (inr z) = inr (ltb-true 1024 (length t) z)
-
-sized : (t : Table) → is_bulky t ≡ false → (0 < length t) × (length t ≤ 1024)
-sized t e = (grind (arith, e), grind (arith, e))
+size_of t e = grind (arith, e)
 
 not_bulky : (t : Table) → Formed t → is_bulky t ≡ false
 not_bulky t w =
@@ -98,7 +91,7 @@ judges_cases (Err e) h = fails h
 -- a refusal that the form test gives, of a table that is not bulky
 right_form : (t : Table) (w : ℕ) (e : Refusal) → is_bulky t ≡ false → 256 ≤ w → Deserved t e → RightFor e.reason t w e
 right_form t w e small wide (bulky b q) = absurd (both_ways (is_bulky t) small b)
-right_form t w e small wide (misshapen m q) = subst (λ r. RightFor r t w e) (sym q) (sized t small, wide, m)
+right_form t w e small wide (misshapen m q) = subst (λ r. RightFor r t w e) (sym q) (some_of t small, wide, m)
 
 -- What the check answers is right.
 checked-judged : (t : Table) (w : ℕ) → Judges (Passes t w) (RefusedRightly t w) (checked t w)
@@ -106,7 +99,7 @@ checked-judged t w =
     subst (Judges (Passes t w) (RefusedRightly t w)) (sym (checked_chain t w))
     (judges_need _ _ _ _ (λ e. (size_of t (not-false (is_bulky t) e), refl)) λ e.
     let small = not-true (is_bulky t) e in
-    judges_need _ _ _ _ (λ e. (sized t small, leb-false 256 w e, refl)) λ e.
+    judges_need _ _ _ _ (λ e. (some_of t small, leb-false 256 w e, refl)) λ e.
     let wide = leb-true 256 w e in
     judges_then (judges_cases (tested t) (form_judged t)) (λ r g. right_form t w r small wide g) λ _ formed.
     judges_need _ _ _ _ (λ e. (wide, formed, taken_procedure (taken_from (node t 0).name e))) λ e.

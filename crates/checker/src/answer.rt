@@ -5,7 +5,7 @@ ghost use Rattle.checker.specs.Answer.{sheet_text};
 use std::fmt;
 
 /// What a run of a procedure is to be given: steps, rows and frames.
-#[derive(Clone, Copy, PartialEq, Eq, Debug)]
+#[derive(Clone, Copy, PartialEq, Eq, Default, Debug)]
 pub struct Sheet {
     pub ceiling: u64,
     pub rows: u16,

@@ -5,8 +5,10 @@ ghost use Rattle.checker.specs.Cost.{turns_of, held, in_turn};
 
 use crate::answer::Sheet;
 use procedure::Node;
+use procedure::limits::MAX_STEPS;
 
-const MOST_HELD: u64 = 1_000_000_001;
+/// Just above the limit.
+const MOST_HELD: u64 = MAX_STEPS + 1;
 
 /// How often a FOR goes through its body.
 pub fn turns_of(node: Node) -> u64

@@ -44,7 +44,7 @@ impl Named for Declaration {
 }
 
 /// What a name means, if anything: a type, or an object.
-#[derive(Clone, Copy)]
+#[derive(Clone, Copy, PartialEq, Eq, Debug)]
 pub enum Meaning {
     Mark(Type),
     Object { of_type: Type, constant: bool },

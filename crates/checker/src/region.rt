@@ -10,7 +10,7 @@ use crate::open_declarations::OpenDeclarations;
 use stack::newest_named;
 
 /// The open declarations while a region is open, and how many there were when it was entered: at its end, on every way out, those
-/// are left.
+/// are left. It is made where it is used: of a guard that a function hands out the caller does not learn what its end leaves.
 pub struct RegionGuard<'r, 'a> {
     pub declared: &'r mut OpenDeclarations<'a>,
     pub entered: usize,

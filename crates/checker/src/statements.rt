@@ -85,11 +85,7 @@ fn walk_list(
     ensures left { Left declared.old declared.new }
 {
     let mut at = n;
-    let mut sheet = Sheet {
-        ceiling: 0,
-        rows: 0,
-        frames: 0,
-    };
+    let mut sheet = Sheet::default();
     // Counts the nodes that are left, as the definition does.
     for rest in (0..left).rev() {
         match standing_at(nodes, at) {

@@ -10,9 +10,9 @@ use crate::answer::Sheet;
 use crate::names::Declaration;
 use crate::open_declarations::OpenDeclarations;
 use crate::statements::walk_region;
-use procedure::limits::{LAST_PREDEFINED_NAME, MAX_NODES, MAX_STEPS};
+use procedure::limits::{LAST_PREDEFINED_NAME, MAX_STEPS};
 use procedure::table::node_at;
-use procedure::{Node, Reason, Refusal, demand, test_form};
+use procedure::{Node, Reason, Refusal, demand, is_bulky, test_form};
 
 /// Walks the whole procedure, with costs held just above the limit.
 fn walk_procedure(
@@ -46,11 +46,7 @@ pub fn check(nodes: &[Node], places: &mut [Declaration]) -> Result<Sheet, Refusa
     ensures exactly_allowed { (s : Sheet) → (result ≡ Ok s) ↔ Passes nodes.now (length places.old) s }
     ensures refused_rightly { (e : Refusal) → (result ≡ Err e) ↔ RefusedRightly nodes.now (length places.old) e }
 {
-    demand(
-        0 < nodes.len() && nodes.len() <= MAX_NODES,
-        Reason::Bulky,
-        0,
-    )?;
+    demand(!is_bulky(nodes), Reason::Bulky, 0)?;
     let mut declared = OpenDeclarations::over(places).ok_or(Reason::Short.at(0))?;
     test_form(nodes)?;
     demand(

@@ -4,6 +4,7 @@ ghost use Rattle.evaluator.specs.Values.{number_of, type_of_value, is_of, truth,
 
 use procedure::types::Type;
 
+/// What an expression comes to.
 #[derive(Clone, Copy, PartialEq, Eq, Debug)]
 pub enum Value {
     Integer(i32),

@@ -1,5 +1,5 @@
 -- A text cut at its first separator, its pieces, and those of them that are words. Assumes nothing.
-use Rattle.std.proofs.Common.{◌≡◌, ℕ, suc, ◌+◌, ◌<◌, ◌≤◌, Bool, true, false, not, nat_eq, cond, List, [], ◌∷◌, length, take, drop, Some, None, Option, refl, sym, ap, ◌∙◌, arith, Bor}
+use Rattle.std.proofs.Common.{◌≡◌, ℕ, suc, ◌+◌, ◌<◌, ◌≤◌, Bool, true, false, not, nat_eq, List, [], ◌∷◌, length, take, drop, Some, None, Option, refl, sym, ap, ◌∙◌, arith, Bor}
 use Rattle.std.specs.List.{position, position_or_len, before_first, after_first, FoldsTo}
 use Rattle.std.specs.Option.{IfSome}
 use Rattle.std.specs.Fn.{CalledAt}
@@ -10,25 +10,16 @@ use Rattle.files.specs.declared.scan.Separator.{Separator}
 use Rattle.files.specs.declared.scan.Pieces.{Pieces}
 use Rattle.files.specs.Scan.{Bytes, cuts, before, behind, pieces, filled, pieces_left}
 
+take-one : (n b : ℕ) (bs : Bytes) → take (1 + n) (b ∷ bs) ≡ b ∷ take n bs
+take-one n b bs = let one : 1 + n ≡ suc n = omega arith in rw one
+
 before_at : (s : Separator) (bs : Bytes) → before s bs ≡ before_first (cuts s) bs
 before_at s [] = refl
-before_at s (b ∷ bs) = step (before_at s bs) (cuts s b)
-  where
-    step : before s bs ≡ before_first (cuts s) bs → (c : Bool) → cond c [] (b ∷ before s bs) ≡ take (cond (not c) (1 + position_or_len (cuts s) bs) 0) (b ∷ bs)
-    step again true = refl
-    step again false =
-        let more : 1 + position_or_len (cuts s) bs ≡ suc (position_or_len (cuts s) bs) = omega arith in
-        rw more (ap (λ front. b ∷ front) again)
+before_at s (b ∷ bs) = grind (arith, before_at s bs, take-one (position_or_len (cuts s) bs) b bs)
 
 behind_at : (s : Separator) (bs : Bytes) → behind s bs ≡ after_first (cuts s) bs
 behind_at s [] = refl
-behind_at s (b ∷ bs) = step (behind_at s bs) (cuts s b)
-  where
-    step : behind s bs ≡ after_first (cuts s) bs → (c : Bool) → cond c bs (behind s bs) ≡ drop (cond (not c) (1 + position_or_len (cuts s) bs) 0 + 1) (b ∷ bs)
-    step again true = refl
-    step again false =
-        let more : 1 + position_or_len (cuts s) bs + 1 ≡ suc (position_or_len (cuts s) bs + 1) = omega arith in
-        rw more again
+behind_at s (b ∷ bs) = grind (arith, behind_at s bs)
 
 pub cut_here : (s : Separator) (bs : Bytes) (i : ℕ) → Some i ≡ position (cuts s) bs → (take i bs ≡ before s bs) × (drop (i + 1) bs ≡ behind s bs)
 cut_here s bs i is =

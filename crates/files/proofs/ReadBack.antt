@@ -1,6 +1,5 @@
 -- Nodes that are written are read back. Assumes nothing.
-use Rattle.std.proofs.Common.{◌≡◌, ℕ, suc, ◌+◌, ◌-◌, ◌*◌, ◌^◌, ◌<◌, ◌≤◌, true, false, eqb, leb, List, [], ◌∷◌, ◌++◌, length, ℤ, pos, negsuc, Some, Ok, decimal, fold, refl, ap, ◌∙◌, arith, rules}
-use lib.Signed.{le_z}
+use Rattle.std.proofs.Common.{◌≡◌, ℕ, suc, ◌+◌, ◌-◌, ◌*◌, ◌^◌, ◌<◌, ◌≤◌, true, false, List, [], ◌∷◌, ◌++◌, length, ℤ, pos, negsuc, Some, Ok, decimal, fold, refl, ap, ◌∙◌, arith, rules}
 use Rattle.std.specs.Option.{option_map}
 use Rattle.std.specs.Fmt.{signed_decimal}
 use Rattle.std.specs.List.{All, AllByRecursion}
@@ -62,15 +61,11 @@ uncut_spaced s (w ∷ []) solid space = solid.0.uncut s
 uncut_spaced s (w ∷ v ∷ ws) solid space = uncut_append s w _ (solid.0.uncut s) (space, uncut_spaced s (v ∷ ws) solid.1 space)
 
 digit_uncut : (s : Separator) (b : ℕ) → 45 ≤ b → cuts s b ≡ false
-digit_uncut Blank b h = grind (arith, nat_tests)
-digit_uncut LineEnd b h = grind (arith, nat_tests)
-digit_uncut CommentSign b h = grind (arith, nat_tests)
+digit_uncut s b h = grind (arith, nat_tests)
 
 digits_uncut : (s : Separator) (bs : Bytes) → all_digits bs ≡ true → Uncut s bs
 digits_uncut s [] d = tt
-digits_uncut s (b ∷ bs) d =
-    let both : (45 ≤ b) × (all_digits bs ≡ true) = grind (arith, nat_tests) in
-    (digit_uncut s b both.0, digits_uncut s bs both.1)
+digits_uncut s (b ∷ bs) d = (digit_uncut s b (grind (arith, nat_tests)), digits_uncut s bs (grind arith))
 
 own : IsNumeralModel (λ ds. all_digits ds ≡ true) digits_value
 own = numerals_by_fold _ (search rules) (fold (λ n b. 10 * n + (b - 48))) (search rules)
@@ -84,7 +79,7 @@ natural_decimal n small =
 
 digits_number : (bs : Bytes) → all_digits bs ≡ true → number_written bs ≡ option_map pos (natural_written bs)
 digits_number [] digits = refl
-digits_number (b ∷ bs) digits = let plain : eqb b 45 ≡ false = grind (arith, nat_tests) in rw plain refl
+digits_number (b ∷ bs) digits = grind (arith, nat_tests)
 
 decimal_number : (n : ℕ) → n < 2 ^ 64 → number_written (decimal n) ≡ Some (pos n)
 decimal_number n small = digits_number (decimal n) (digits_decimal own n small) ∙ ap (option_map pos) (natural_decimal n small)
@@ -101,15 +96,11 @@ signed-number (negsuc n) h = rw (natural_decimal (suc n) (omega (arith, ints))) 
 
 natural_back : (f : Field) (n top : ℕ) → (described f).low ≡ pos 0 → (described f).high ≡ pos top → n ≤ top → top < 2 ^ 64 → natural f (Some (decimal n)) ≡ Ok n
 natural_back f n top low high within small =
-    let above : leb 0 n ≡ true = grind (arith, nat_tests) in
-    let below : leb n top ≡ true = grind (arith, nat_tests) in
-    rw (decimal_number n (omega arith), low, high, above, below) refl
+    rw (decimal_number n (omega arith), low, high) (grind (arith, nat_tests))
 
 integer_back : (f : Field) (z : ℤ) → Within f z → Within Lo z → integer f (Some (signed_decimal z)) ≡ Ok z
 integer_back f z within fits =
-    let above : le_z (described f).low z ≡ true = grind (arith, ints) in
-    let below : le_z z (described f).high ≡ true = grind (arith, ints) in
-    rw (signed-number z fits, above, below) refl
+    rw (signed-number z fits) (grind (arith, ints))
 
 node_back : (n : Node) → Fitting n → node_of (node_words n) ≡ Ok n
 node_back n fits =
@@ -125,25 +116,7 @@ node_back n fits =
     ) refl
 
 solid_words : (n : Node) → Fitting n → AllByRecursion Solid (node_words n)
-solid_words n fits = (
-  solid_decimal n.kind (omega (arith, fits.kind)),
-  (
-    solid_decimal n.name (omega (arith, fits.name)),
-    (
-      solid_decimal n.a (omega (arith, fits.a)),
-      (
-        solid_decimal n.b (omega (arith, fits.b)),
-        (
-          solid_decimal n.c (omega (arith, fits.c)),
-          (
-            solid_decimal n.next (omega (arith, fits.next)),
-            (solid_signed n.lo fits.lo, (solid_signed n.hi fits.hi, tt)),
-          ),
-        ),
-      ),
-    ),
-  ),
-)
+solid_words n fits = search (rules, arith, solid_decimal, solid_signed)
 
 line_back : (n : Node) → Fitting n → line_read (spaced (node_words n)) ≡ Ok (Some n)
 line_back n fits =

@@ -1,5 +1,5 @@
 -- A procedure read line by line. Assumes nothing.
-use Rattle.std.proofs.Common.{◌≡◌, ℕ, ◌+◌, ◌≤◌, List, [], ◌∷◌, ◌++◌, length, Ok, Err, Option, Result, sym, refl, ◌∙◌, append_assoc, append-nil, arith}
+use Rattle.std.proofs.Common.{◌≡◌, ℕ, ◌+◌, ◌≤◌, List, [], ◌∷◌, ◌++◌, length, Ok, Err, Option, Result, refl, ◌∙◌, append_assoc, arith}
 use Rattle.std.specs.Option.{option_to_list}
 use Rattle.std.proofs.lemmas.Bool.{cond_both}
 use Rattle.procedure.specs.declared.node.Node.{Node}
@@ -7,7 +7,8 @@ use Rattle.files.specs.declared.file.FaultyLine.{FaultyLine}
 use Rattle.files.specs.declared.scan.Separator.{Separator}
 use Rattle.files.specs.declared.scan.Separator.TheVariants.{LineEnd}
 use Rattle.files.specs.Scan.{Bytes, cuts, onto, pieces, lines_of}
-use Rattle.files.specs.Line.{and_then, line_read}
+use Rattle.procedure.specs.Sequence.{and_then}
+use Rattle.files.specs.Line.{line_read}
 use Rattle.files.specs.File.{at_line, lines_read, procedure_read}
 
 onto-few : (b : ℕ) (ps : List Bytes) → length (onto b ps) ≤ length ps + 1
@@ -34,13 +35,7 @@ none_read text nodes number lines none zero all = record { said = rw (none, zero
     whole (Ok more) = refl
     whole (Err fault) = refl
 
-pub all_read : (text : Bytes) (nodes : List Node) (number : ℕ) (lines : List Bytes) → Sofar text nodes number lines → lines ≡ [] → procedure_read text ≡ Ok nodes
-all_read text nodes number lines sofar none = sym sofar.said ∙ rw (none, append-nil) refl
-
 module _ {text : Bytes} {nodes : List Node} {number : ℕ} (lines : List Bytes) (line : Bytes) (left : List Bytes) (sofar : Sofar text nodes number lines) (next : lines ≡ line ∷ left) where
-  pub line_fault : (fault : FaultyLine) → at_line (number + 1) (line_read line) ≡ Err fault → procedure_read text ≡ Err fault
-  line_fault fault is = sym sofar.said ∙ rw (next, is) refl
-
   pub line_added : (after : List Node) → and_then (at_line (number + 1) (line_read line)) (λ node. Ok (nodes ++ option_to_list node)) ≡ Ok after → Sofar text after (number + 1) left
   line_added after is =
       let said : and_then (lines_read (number + 1) (line ∷ left)) (λ more. Ok (nodes ++ more)) ≡ procedure_read text = rw next at sofar.said in

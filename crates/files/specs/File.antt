@@ -8,7 +8,8 @@ use Rattle.files.specs.declared.file.FaultyLine.{FaultyLine}
 use Rattle.files.specs.declared.file.FileFault.{FileFault}
 use Rattle.files.specs.declared.file.FileFault.TheVariants.{Line, OutOfMemory}
 use Rattle.files.specs.Scan.{Bytes, lines_of}
-use Rattle.files.specs.Line.{and_then, line_read}
+use Rattle.procedure.specs.Sequence.{and_then}
+use Rattle.files.specs.Line.{line_read}
 
 -- a fault with the number of its line
 abbrev pub at_line : {T : Type 0} → ℕ → Result T LineFault → Result T FaultyLine

@@ -2,7 +2,7 @@
 use Rattle.std.specs.Prelude.{◌≡◌, ℤ, Ok, Err, Result, refl}
 use Rattle.std.specs.Result.{OkIff}
 use Rattle.files.specs.declared.line.LineFault.{LineFault}
-use Rattle.files.specs.Line.{and_then}
+use Rattle.procedure.specs.Sequence.{and_then}
 
 -- a fault is told as it is, and a number that the type holds is taken into it
 abbrev pub Holding : {X E : Type 0} → (ℤ → Result X E → Type 0) → (ℤ → Type 0) → Result ℤ LineFault → Result X LineFault → Type 0

@@ -1,5 +1,6 @@
 -- The node that a line writes, or why it is none. Assumes nothing.
 use Rattle.std.specs.Prelude.{◌≡◌, ℕ, List, [], ◌∷◌, ℤ, pos, negsuc, ◌≤ℤ◌, Some, None, Ok, Err, codes, Option, Result, unsigned_abs}
+use Rattle.procedure.specs.Sequence.{and_then}
 use Rattle.procedure.specs.declared.node.Node.{Node}
 use Rattle.files.specs.declared.number.NumberFault.{NumberFault}
 use Rattle.files.specs.declared.number.NumberFault.TheVariants.{NoNumber as NoNumeral, OutOfRange as Outside}
@@ -29,15 +30,6 @@ described Hi = record { place = 8; word = codes "hi"; low = negsuc 2147483647; h
 
 abbrev pub Within : Field → ℤ → Type 0
 Within f z = ((described f).low ≤ℤ z) × (z ≤ℤ (described f).high)
-
--- the fields of 16 bits at most, never below 0
-abbrev pub Unsigned : Field → Type 0
-Unsigned f = ((described f).low ≡ pos 0) × ((described f).high ≤ℤ pos 65535)
-
--- what a first step gives, and then the next step; the first fault counts
-abbrev pub and_then : {T U E : Type 0} → Result T E → (T → Result U E) → Result U E
-and_then (Ok x) next = next x
-and_then (Err e) next = Err e
 
 -- the fault of a number, told of a field
 abbrev pub told_of : Field → Result ℤ NumberFault → Result ℤ LineFault

@@ -4,11 +4,18 @@ use Rattle.std.specs.Fmt.{signed_decimal}
 use Rattle.files.specs.declared.line.Field.{Field}
 use Rattle.files.specs.declared.line.LineFault.{LineFault}
 use Rattle.files.specs.declared.line.LineFault.TheVariants.{Missing, NoNumber, OutOfRange, Extra}
+use Rattle.files.specs.declared.number.NumberFault.{NumberFault}
+use Rattle.files.specs.declared.number.NumberFault.TheVariants.{NoNumber as NoNumeral, OutOfRange as OutsideRange}
 use Rattle.files.specs.declared.file.FaultyLine.{FaultyLine}
 use Rattle.files.specs.declared.file.FileFault.{FileFault}
 use Rattle.files.specs.declared.file.FileFault.TheVariants.{Line, OutOfMemory}
 use Rattle.files.specs.Scan.{Bytes}
 use Rattle.files.specs.Line.{described}
+
+-- told behind the word
+abbrev pub number_fault_text : NumberFault → Bytes
+number_fault_text NoNumeral = codes "is no decimal number"
+number_fault_text OutsideRange = codes "is out of range"
 
 -- as `number 3 (a)`
 abbrev pub field_text : Field → Bytes

@@ -79,7 +79,7 @@ pub enum LineFault {
     Extra,
 }
 
-/// A type of a node's numbers.
+/// A type that fields of a node have.
 trait Number: TryFrom<i32, Error: Drop> {
     /// The integers that it holds.
     ghost holds: { ℤ → Type 0 };

@@ -1,10 +1,23 @@
 //! How faults are told, in sentences that say what to write instead.
 ghost use Rattle.std.specs.Prelude.{Some};
-ghost use Rattle.files.specs.Message.{field_text, line_fault_text, faulty_line_text, file_fault_text};
+ghost use Rattle.files.specs.Message.{number_fault_text, field_text, line_fault_text, faulty_line_text, file_fault_text};
 
 use crate::file::{FaultyLine, FileFault};
 use crate::line::{Description, Field, LineFault};
+use crate::number::NumberFault;
+use std::error::Error;
 use std::fmt;
+
+impl fmt::Display for NumberFault {
+    ghost output = { λ x. Some (number_fault_text x) };
+
+    fn fmt<W: fmt::Write>(&self, f: &mut fmt::Formatter<W>) -> fmt::Result {
+        match self {
+            NumberFault::NoNumber => write!(f, "is no decimal number"),
+            NumberFault::OutOfRange => write!(f, "is out of range"),
+        }
+    }
+}
 
 /// As `number 3 (a)`.
 impl fmt::Display for Field {
@@ -67,3 +80,11 @@ impl fmt::Display for FileFault {
         }
     }
 }
+
+impl Error for NumberFault {}
+
+impl Error for LineFault {}
+
+impl Error for FaultyLine {}
+
+impl Error for FileFault {}

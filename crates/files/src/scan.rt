@@ -66,6 +66,7 @@ pub struct Lines<'a> {
 }
 
 impl<'a> Lines<'a> {
+    /// All the lines of a text.
     pub fn new(text: &'a [u8]) -> Lines<'a>
         ensures all_lines { lines_left result ≡ lines_of text.now }
     {
@@ -96,6 +97,7 @@ pub struct Words<'a> {
 }
 
 impl<'a> Words<'a> {
+    /// All the words of a line.
     pub fn new(line: &'a [u8]) -> Words<'a>
         ensures all_words { words_left result ≡ words_of_line line.now }
     {

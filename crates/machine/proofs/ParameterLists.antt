@@ -1,14 +1,14 @@
 -- Going along the parameters of a procedure, one by one.
-use Rattle.std.proofs.Common.{◌≡◌, ℕ, zero, suc, ◌+◌, ◌<◌, ◌≤◌, Bool, true, false, List, [], ◌∷◌, ◌++◌, length, take, drop, set, ℤ, Ok, Err, Result, ◌⊎◌, inl, inr, refl, ap, append_assoc, arith}
+use Rattle.std.proofs.Common.{◌≡◌, ℕ, zero, suc, ◌+◌, ◌<◌, ◌≤◌, List, [], ◌∷◌, ◌++◌, length, take, drop, set, ℤ, Ok, Err, Result, ◌⊎◌, inl, inr, refl, ap, append_assoc, arith}
 use Rattle.std.proofs.lemmas.List.{drop-set-lt, take_more_set, take-append-drop}
 use Rattle.std.specs.declared.slice.Iter.{Iter}
 use Rattle.std.specs.Slice.Iter.{iter_rest}
 use Rattle.stack.specs.declared.Full.{Full}
 use Rattle.stack.specs.Acts.{stacked, Put}
-use Rattle.procedure.specs.Table.{Table, node, standing}
+use Rattle.procedure.specs.Table.{Table, node}
 use Rattle.evaluator.specs.declared.rows.Row.{Row}
 use Rattle.machine.specs.declared.parameters.Parameters.{Parameters}
-use Rattle.machine.specs.Begin.{is_parameter, parameters_left, parameters_from, behind_parameters, fitting, parameter_row, parameter_rows}
+use Rattle.machine.specs.Begin.{parameters_left, parameters_from, behind_parameters, fitting, parameter_row, parameter_rows}
 use Rattle.machine.specs.Decide.{Rows}
 
 -- the node behind a list of parameters, or n where there is none
@@ -18,20 +18,11 @@ behind t n (m ∷ ms) = behind t (node t m).next ms
 
 pub behind_all : (f : ℕ) (t : Table) (n : ℕ) → behind t n (parameters_from f t n) ≡ behind_parameters f t n
 behind_all zero t n = refl
-behind_all (suc f) t n = go (is_parameter (standing t n)) refl (behind_all f t (node t n).next) where
-  go : (b : Bool) → is_parameter (standing t n) ≡ b
-      → behind t (node t n).next (parameters_from f t (node t n).next) ≡ behind_parameters f t (node t n).next
-      → behind t n (parameters_from (suc f) t n) ≡ behind_parameters (suc f) t n
-  go true e h = rw e h
-  go false e h = rw e
+behind_all (suc f) t n = grind (arith, behind_all f t (node t n).next)
 
 pub parameters-few : (f : ℕ) (t : Table) (n : ℕ) → length (parameters_from f t n) ≤ f
 parameters-few zero t n = omega arith
-parameters-few (suc f) t n = go (is_parameter (standing t n)) refl (parameters-few f t (node t n).next) where
-  go : (b : Bool) → is_parameter (standing t n) ≡ b → length (parameters_from f t (node t n).next) ≤ f
-      → length (parameters_from (suc f) t n) ≤ suc f
-  go true e h = rw e (omega (arith, h))
-  go false e h = rw e (omega arith)
+parameters-few (suc f) t n = grind (arith, parameters-few f t (node t n).next)
 
 -- no parameter or no value is left
 abbrev pub Over : Parameters → Iter ℤ → Type 0

@@ -33,10 +33,6 @@ pub going_past : (m n : ℕ) (t : Table) (s u : State) → u ≡ going m t s →
 going_past m n t s u e p h =
     sym (going_over (n - m) t u p) ∙ ap (going (n - m) t) e ∙ going_again m (n - m) t s ∙ ap (λ (k : ℕ). going k t s) (omega arith)
 
-pub going_one_more : (n : ℕ) (t : Table) (s : State) → going (n + 1) t s ≡ advanced t (going n t s)
-unfolding going
-going_one_more n t s = simp unary_clauses
-
 pub going-none : (t : Table) (s : State) → going 0 t s ≡ s
 unfolding going
 going-none t s = refl

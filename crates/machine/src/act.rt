@@ -4,7 +4,7 @@ use evaluator::{Placed, Row};
 
 /// What a step does when it does not fail. The last number is the node that it goes to. An act is data, since the definitions decide
 /// on it first and carry it out then.
-#[derive(Clone, Copy)]
+#[derive(Clone, Copy, PartialEq, Eq, Debug)]
 pub enum Act {
     /// The run is done.
     Done,

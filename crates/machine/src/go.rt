@@ -10,8 +10,8 @@ use crate::machine::Machine;
 use crate::run::{Run, Shown};
 use evaluator::Row;
 use port::Port;
-use procedure::limits::{MAX_NODES, MAX_STEPS};
-use procedure::{Node, Reason, Refusal, demand};
+use procedure::limits::MAX_STEPS;
+use procedure::{Node, Reason, Refusal, demand, is_bulky};
 use stack::Stack;
 
 impl<P: Port> Machine<'_, '_, '_, '_, '_, P> {
@@ -44,14 +44,10 @@ fn admit(
     ensures admitted { OnOk result ((budget + run.now.shown.progress.steps ≤ 1000000000)
         × (run.now.shown.rows ≤ length rows.now) × (run.now.shown.frames ≤ length frames.now)) }
 {
-    demand(
-        0 < nodes.len() && nodes.len() <= MAX_NODES,
-        Reason::Bulky,
-        0,
-    )?;
+    demand(!is_bulky(nodes), Reason::Bulky, 0)?;
     demand(run.shown.progress.outcome.is_paused(), Reason::Over, 0)?;
     demand(
-        budget <= MAX_STEPS && budget + run.shown.progress.steps <= MAX_STEPS,
+        budget.saturating_add(run.shown.progress.steps) <= MAX_STEPS,
         Reason::Overdrawn,
         0,
     )?;

@@ -7,7 +7,7 @@
 //!
 //! One step is one definition (`stepped`, specs/State.antt): what stands at the node due decides on an act or a fault (`decided`,
 //! specs/Decide.antt), and the act, or the end that the fault makes of the run (specs/Outcomes.antt), is carried out. In the code an
-//! act answers the node that the run goes to, or a fault, and the step alone counts and concludes (`concluded`). Going is so many
+//! act answers the node that the run goes to, or a fault, and the step alone counts steps and concludes (`concluded`). Going is so many
 //! steps while the run is PAUSED. The code is written for every `Port` and knows only what the port means.
 //!
 //! Which procedures are allowed is left to the check, and what holds of their runs to the crates above.

@@ -4,9 +4,9 @@ use crate::progress::Progress;
 use evaluator::Row;
 use stack::Stack;
 
-/// How far a run has come, with its rows and frames over the slices that were supplied, and its port. The stacks are borrowed: of
-/// a slice in a struct in a struct no proof of its owner learns what it holds in the end. That the counts are in bounds is asked of
-/// each method and is no fact of the struct: between a get and the end of its step it does not hold.
+/// How far a run has come, with its rows and frames over the slices that were supplied, and its port. The stacks are borrowed:
+/// where a struct held them, the owner of the slices would not learn what they hold in the end. That the counts are in bounds is asked
+/// of each method and is no fact of the struct: between a get and the end of its step it does not hold.
 #[derive(Drop)]
 pub struct Machine<'r, 'f, 'm, 'n, 'p, P> {
     pub progress: Progress,

@@ -1,6 +1,6 @@
 -- One get after another, each answering a number, and the one that finds none waiting.
-use Rattle.std.proofs.Common.{◌≡◌, ℕ, zero, suc, ◌+◌, ◌<◌, ◌≤◌, min, List, [], ◌∷◌, ◌++◌, length, get_or, take, drop, set, ℤ, pos, Some, None, Option, sym, ap, ◌∙◌, arith}
-use Rattle.std.proofs.lemmas.List.{append_assoc, length-take-le, set_at, take_more, drop_all, drop_more}
+use Rattle.std.proofs.Common.{◌≡◌, ℕ, ◌+◌, ◌<◌, ◌≤◌, min, List, ◌++◌, length, get_or, take, drop, set, ℤ, pos, Some, None, Option, sym, ap, ◌∙◌, arith}
+use Rattle.std.proofs.lemmas.List.{append_assoc, length-take-le, set_at, take_more, drop_all, drop_more, at_drop_more, at_drop_all}
 use Rattle.port.specs.Client.{after_gets}
 use Rattle.port.specs.Meaning.{Meaning, first, get_answer, after_get}
 
@@ -10,15 +10,7 @@ pub record Read (i : ℕ) (m n : Meaning) : Type 0 where
   pub waited : i ≤ length m.waiting
 
 first_some : (xs : List ℤ) (i : ℕ) (x : ℤ) → first (drop i xs) ≡ Some x → i < length xs
-first_some [] zero x e = absurd (let z : ◌≡◌ {A = ℕ} 0 1 = cc in omega arith)
-first_some [] (suc i) x e = absurd (let z : ◌≡◌ {A = ℕ} 0 1 = cc in omega arith)
-first_some (y ∷ ys) zero x e = omega arith
-first_some (y ∷ ys) (suc i) x e = omega (arith, first_some ys i x e)
-
-first-none : (xs : List ℤ) (i : ℕ) → first (drop i xs) ≡ None → length xs ≤ i
-first-none [] i e = omega arith
-first-none (y ∷ ys) zero e = absurd (let z : ◌≡◌ {A = ℕ} 0 1 = cc in omega arith)
-first-none (y ∷ ys) (suc i) e = omega (arith, first-none ys i e)
+first_some xs i x e = grind (arith, at_drop_all first xs i)
 
 -- a get that answers r and leaves o, after i of them
 module _ {i : ℕ} {m n o : Meaning} {r : Option ℤ} (so : Read i m n) (answers : r ≡ get_answer n) (leaves : o ≡ after_get n) where
@@ -32,7 +24,7 @@ module _ {i : ℕ} {m n o : Meaning} {r : Option ℤ} (so : Read i m n) (answers
 
   pub read_all : r ≡ None → (k : ℕ) → i ≤ k → (i ≡ min k (length m.waiting)) × (o ≡ after_gets k m)
   read_all e k l =
-      let h = first-none m.waiting i (first-left ∙ e) in
+      let h : length m.waiting ≤ i = grind (arith, at_drop_more first m.waiting i (pos 0), first-left, e) in
       (omega (arith, so.waited), leaves ∙ ap after_get so.leaves ∙ rw (drop_all i m.waiting h, drop_all k m.waiting (omega arith)))
 
 -- the places xs, of which the first i hold numbers of ws, after one more is written
@@ -42,10 +34,4 @@ holds_more ws xs i x e l =
     let h = first_some ws i x e in
     let d = drop_more ws i (pos 0) h in
     let same : get_or ws i (pos 0) ≡ x = cc in
-    rw (
-      drop_more xs i (pos 0) l,
-      set_at (take i ws) (get_or xs i (pos 0)) (drop (i + 1) xs) x i (length-take-le i ws (omega arith)),
-      take_more ws i (pos 0) h,
-      same,
-      append_assoc (take i ws) (x ∷ []) (drop (i + 1) xs),
-    )
+    rw (drop_more xs i (pos 0) l, set_at (take i ws) _ _ x i (length-take-le i ws (omega arith)), take_more ws i (pos 0) h, same, append_assoc)

@@ -1,11 +1,11 @@
 -- The level of a node is one more than, or the same as, the level of its namer.
 use Rattle.std.proofs.Common.{◌≡◌, ℕ, zero, suc, ◌+◌, ◌^◌, ◌<◌, ◌≤◌, Bool, true, false, ◌⊎◌, List, length, get_or, set, sym, refl, ap, ◌∙◌, subst, inl, inr, arith}
-use Rattle.std.proofs.lemmas.List.{get_or-set_same, get_or-set_other}
-use Rattle.std.proofs.lemmas.Bool.{cases_eq, false≢true}
+use Rattle.std.proofs.lemmas.Grind.{common_steps}
+use Rattle.std.proofs.lemmas.Bool.{true≢false, false≢true}
 use Rattle.procedure.specs.declared.layout.Role.{Role}
 use Rattle.procedure.specs.declared.layout.Role.TheVariants.{Operand, Root, Declarations, Locals, Statements, Alternative, Following}
 use Rattle.procedure.specs.declared.naming.Naming.{Naming}
-use Rattle.procedure.specs.declared.naming.Naming.TheVariants.{Never, Once, Often}
+use Rattle.procedure.specs.declared.naming.Naming.TheVariants.{Once}
 use Rattle.procedure.specs.Level.{level, level_by, level_within}
 use Rattle.procedure.specs.Naming.{naming}
 use Rattle.procedure.specs.Rules.{Obeys}
@@ -25,41 +25,20 @@ climbs Following = true
 
 -- the level asks for the namer's alone, and only where it goes on from it
 pub level_from : (s : Naming) (up on : ℕ → ℕ) → ((m : ℕ) (r : Role) → s ≡ Once m r → climbs r ≡ true → up m ≡ on m) → level_by up s ≡ level_by on s
-level_from Never up on h = refl
-level_from Often up on h = refl
-level_from (Once m Operand) up on h = ap suc (h m Operand refl refl)
-level_from (Once m Root) up on h = refl
-level_from (Once m Declarations) up on h = refl
-level_from (Once m Locals) up on h = refl
-level_from (Once m Statements) up on h = ap suc (h m Statements refl refl)
-level_from (Once m Alternative) up on h = ap suc (h m Alternative refl refl)
-level_from (Once m Following) up on h = h m Following refl refl
+level_from s up on h = grind (arith, h)
 
 -- n and m, from which n's level goes on, are both expressions or both none, and m stands where n's chain leads
 abbrev Closer : Bool → Bool → ℕ → ℕ → Type 0
-Closer true true m n = n < m
-Closer true false m n = ⊥
-Closer false true m n = ⊥
-Closer false false m n = m < n
-
-closer_both : (a b : Bool) (m n : ℕ) → a ≡ true → b ≡ true → n < m → Closer a b m n
-closer_both true true m n p q h = h
-closer_both true false m n p q h = absurd (false≢true q)
-closer_both false b m n p q h = absurd (false≢true p)
-
-closer_none : (a b : Bool) (m n : ℕ) → a ≡ false → b ≡ false → m < n → Closer a b m n
-closer_none false false m n p q h = h
-closer_none false true m n p q h = absurd (false≢true (sym q))
-closer_none true b m n p q h = absurd (false≢true (sym p))
+Closer a b m n = ((a ≡ true) × (b ≡ true) × (n < m)) ⊎ ((a ≡ false) × (b ≡ false) × (m < n))
 
 placed_closer : (r : Role) (a b : Bool) (m n : ℕ) → climbs r ≡ true → Placed r a b m n → Closer a b m n
-placed_closer Operand a b m n c p = closer_both a b m n p.0 p.1 p.2
+placed_closer Operand a b m n c p = inl p
 placed_closer Root a b m n c p = absurd (false≢true c)
 placed_closer Declarations a b m n c p = absurd (false≢true c)
 placed_closer Locals a b m n c p = absurd (false≢true c)
-placed_closer Statements a b m n c p = closer_none a b m n p.0 p.1 p.2
-placed_closer Alternative a b m n c p = closer_none a b m n p.0 p.1 p.2
-placed_closer Following a b m n c p = closer_none a b m n p.0 p.1 p.2
+placed_closer Statements a b m n c p = inr p
+placed_closer Alternative a b m n c p = inr p
+placed_closer Following a b m n c p = inr p
 
 pub namer_closer : (t : Table) (m n : ℕ) (r : Role) → Obeys t → naming t n ≡ Once m r → climbs r ≡ true
     → (m < length t) × Closer (expression_at t m) (expression_at t n) m n
@@ -71,18 +50,15 @@ namer_closer t m n r w e c =
 
 -- f turns are enough for the chain from n
 abbrev Enough : Bool → Table → ℕ → ℕ → Type 0
-Enough true t n f = length t ≤ f + n
-Enough false t n f = n < f
+Enough b t n f = (b ≡ true → length t ≤ f + n) × (b ≡ false → n < f)
 
 enough_on : (t : Table) (a b : Bool) (m n f : ℕ) → Closer a b m n → Enough b t n (suc f) → Enough a t m f
-enough_on t true true m n f c h = omega (arith, c, h)
-enough_on t true false m n f c h = absurd c
-enough_on t false true m n f c h = absurd c
-enough_on t false false m n f c h = omega (arith, c, h)
+enough_on t a b m n f (inl c) h = ((λ _. omega (arith, c.2, h.0 c.1)), λ e. absurd (true≢false (sym c.0 ∙ e)))
+enough_on t a b m n f (inr c) h = ((λ e. absurd (true≢false (sym e ∙ c.0))), λ _. omega (arith, c.2, h.1 c.1))
 
 none_left : (t : Table) (a : Bool) (n : ℕ) → n < length t → Enough a t n 0 → ⊥
-none_left t true n l h = omega (arith, h)
-none_left t false n l h = omega (arith, h)
+none_left t true n l h = omega (arith, h.0 refl)
+none_left t false n l h = omega (arith, h.1 refl)
 
 -- where the turns are enough, one more changes nothing
 steady : (t : Table) → Obeys t → (f n : ℕ) → n < length t → Enough (expression_at t n) t n f → level_within f t n ≡ level_within (suc f) t n
@@ -94,10 +70,8 @@ steady t w (suc f) n l h =
     steady t w f m k.0 (enough_on t (expression_at t m) (expression_at t n) m n f k.1 h))
 
 start_enough : (t : Table) (a b : Bool) (m n f : ℕ) → length t ≡ suc f → n < length t → Closer a b m n → Enough a t m f
-start_enough t true true m n f e l c = omega (arith, c)
-start_enough t true false m n f e l c = absurd c
-start_enough t false true m n f e l c = absurd c
-start_enough t false false m n f e l c = omega (arith, c)
+start_enough t a b m n f e l (inl c) = ((λ _. omega (arith, c.2)), λ q. absurd (true≢false (sym c.0 ∙ q)))
+start_enough t a b m n f e l (inr c) = ((λ q. absurd (true≢false (sym q ∙ c.0))), λ _. omega (arith, c.2))
 
 level_law_of : (t : Table) → Obeys t → (k n : ℕ) → length t ≡ k → n < length t → level_within k t n ≡ level_by (level_within k t) (naming t n)
 level_law_of t w zero n e l = absurd (omega arith)
@@ -112,15 +86,7 @@ pub level_law : (t : Table) → Obeys t → (n : ℕ) → n < length t → level
 level_law t w n l = level_law_of t w (length t) n refl l
 
 level_by_le : (s : Naming) (up : ℕ → ℕ) (k : ℕ) → ((m : ℕ) → up m ≤ k) → level_by up s ≤ suc k
-level_by_le Never up k h = omega arith
-level_by_le Often up k h = omega arith
-level_by_le (Once m Operand) up k h = omega (arith, h m)
-level_by_le (Once m Root) up k h = omega arith
-level_by_le (Once m Declarations) up k h = omega arith
-level_by_le (Once m Locals) up k h = omega arith
-level_by_le (Once m Statements) up k h = omega (arith, h m)
-level_by_le (Once m Alternative) up k h = omega (arith, h m)
-level_by_le (Once m Following) up k h = omega (arith, h m)
+level_by_le s up k h = grind (arith, h)
 
 level_within_le : (t : Table) (k n : ℕ) → level_within k t n ≤ k
 level_within_le t zero n = omega arith
@@ -143,24 +109,15 @@ noted_level t w few levels s r n l e exact known =
     exact (omega (arith, q, level_le t n)) ∙ q
 
 closer_plain : (a b : Bool) (m n : ℕ) → b ≡ false → Closer a b m n → (a ≡ false) × (m < n)
-closer_plain true true m n e c = absurd (false≢true (sym e))
-closer_plain true false m n e c = absurd c
-closer_plain false true m n e c = absurd c
-closer_plain false false m n e c = (refl, c)
+closer_plain a b m n e (inl c) = absurd (true≢false (sym c.1 ∙ e))
+closer_plain a b m n e (inr c) = (c.0, c.2)
 
 closer_sides : (a b : Bool) (m n : ℕ) → Closer a b m n → (n < m) ⊎ (a ≡ false)
-closer_sides true true m n c = inl c
-closer_sides true false m n c = absurd c
-closer_sides false true m n c = absurd c
-closer_sides false false m n c = inr refl
+closer_sides a b m n c = elim c [ inl p ↦ inl p.2 | inr q ↦ inr q.0 ]
 
 -- what a list holds at k after a write of r at n
 after-set : (levels : List ℕ) (n r k v : ℕ) → n < length levels → (k ≡ n → r ≡ v) → ((k ≡ n → ⊥) → get_or levels k 0 ≡ v) → get_or (set levels n r) k 0 ≡ v
-after-set levels n r k v l same other =
-    elim (cases_eq k n) [
-      | inl e ↦ ap (λ x. get_or (set levels n r) x 0) e ∙ get_or-set_same levels n r 0 l ∙ same e
-      | inr d ↦ get_or-set_other levels n k r 0 d ∙ other d
-    ]
+after-set levels n r k v l same other = grind (arith, common_steps, same, other)
 
 -- one turn of each pass over the levels
 pub upward : (t : Table) → Obeys t → length t ≤ 1024 → (levels : List ℕ) (s : Naming) (r n : ℕ) → n < length t → length levels ≡ 1024 → s ≡ naming t n

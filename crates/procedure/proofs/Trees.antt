@@ -31,23 +31,18 @@ only_namer t w n k m l p q =
     let o = once_at t w n p.part l in
     (named_only_by t n o.0 k o.1.0 o.1.1 p).0 ∙ sym (named_only_by t n o.0 m o.1.0 o.1.1 q).0
 
-placed_plain : (r : Role) (a b : Bool) (m n : ℕ) → b ≡ false → Placed r a b m n → (a ≡ false) × (m < n)
-placed_plain Operand a b m n e p = absurd (false≢true (sym e ∙ p.1))
-placed_plain Root a b m n e p = absurd (false≢true (sym e ∙ p.1))
-placed_plain Declarations a b m n e p = (p.0, p.2)
-placed_plain Locals a b m n e p = (p.0, p.2)
-placed_plain Statements a b m n e p = (p.0, p.2)
-placed_plain Alternative a b m n e p = (p.0, p.2)
-placed_plain Following a b m n e p = (p.0, p.2)
+-- who names a node is an expression with a greater number, as the node is one, or is none and has a smaller number
+placed_ways : (r : Role) (a b : Bool) (m n : ℕ) → Placed r a b m n → ((a ≡ true) × (b ≡ true) × (n < m)) ⊎ ((a ≡ false) × (m < n))
+placed_ways Operand a b m n p = inl p
+placed_ways Root a b m n p = inr (p.0, p.2)
+placed_ways Declarations a b m n p = inr (p.0, p.2)
+placed_ways Locals a b m n p = inr (p.0, p.2)
+placed_ways Statements a b m n p = inr (p.0, p.2)
+placed_ways Alternative a b m n p = inr (p.0, p.2)
+placed_ways Following a b m n p = inr (p.0, p.2)
 
-placed_expression : (r : Role) (a b : Bool) (m n : ℕ) → Placed r a b m n → ((a ≡ true) × (n < m)) ⊎ (a ≡ false)
-placed_expression Operand a b m n p = inl (p.0, p.2)
-placed_expression Root a b m n p = inr p.0
-placed_expression Declarations a b m n p = inr p.0
-placed_expression Locals a b m n p = inr p.0
-placed_expression Statements a b m n p = inr p.0
-placed_expression Alternative a b m n p = inr p.0
-placed_expression Following a b m n p = inr p.0
+placed_plain : (r : Role) (a b : Bool) (m n : ℕ) → b ≡ false → Placed r a b m n → (a ≡ false) × (m < n)
+placed_plain r a b m n e p = elim (placed_ways r a b m n p) [ inl q ↦ absurd (false≢true (sym e ∙ q.1)) | inr q ↦ q ]
 
 -- what is no expression is reached by way of smaller numbers
 reach_plain : (t : Table) → Obeys t → (f n : ℕ) → n < f → n < length t → expression_at t n ≡ false → Reached t n
@@ -64,9 +59,9 @@ reach_expression t w zero n h p l = absurd (omega arith)
 reach_expression t w (suc f) n h p l =
     let o = namer_of t w n p l in
     let i = namer-within t o.0 n o.1 in
-    elim (placed_expression o.1.role (expression_at t o.0) (expression_at t n) o.0 n (namer-placed t o.0 n w o.1)) [
-      | inl q ↦ onward (reach_expression t w f o.0 (omega (arith, q.1)) (omega (arith, q.1)) i) o.1
-      | inr q ↦ onward (reach_plain t w (suc o.0) o.0 (omega arith) i q) o.1
+    elim (placed_ways o.1.role (expression_at t o.0) (expression_at t n) o.0 n (namer-placed t o.0 n w o.1)) [
+      | inl q ↦ onward (reach_expression t w f o.0 (omega (arith, q.2)) (omega (arith, q.2)) i) o.1
+      | inr q ↦ onward (reach_plain t w (suc o.0) o.0 (omega arith) i q.0) o.1
     ]
 
 reach : (t : Table) → Obeys t → (n : ℕ) → n < length t → Reached t n

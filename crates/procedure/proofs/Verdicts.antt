@@ -46,7 +46,7 @@ judged_rules t s f (Some d) e =
     let x = lowest_found (broken_rule t) (length t) d e in
     misshapen_by t d x.rule x.at x.told (by_rule (found_lowest t (broken_rule t) d x))
 
-some_of : (t : Table) → is_bulky t ≡ false → (0 < length t) × (length t ≤ node_limit)
+pub some_of : (t : Table) → is_bulky t ≡ false → (0 < length t) × (length t ≤ node_limit)
 some_of t e = (grind (arith, e), grind (arith, e))
 
 judged_size : (t : Table) (b : Bool) → is_bulky t ≡ b

@@ -1,7 +1,7 @@
 //! The form test.
 ghost use Rattle.std.specs.Prelude.{◌≡◌, ℕ, ◌<◌, length, MatchResult, slice_index};
 ghost use Rattle.std.specs.Option.{option_or};
-ghost use Rattle.procedure.specs.Form.{fault_at, lowest, deep_rule, too_deep, form_fault, tested, refusal_of};
+ghost use Rattle.procedure.specs.Form.{fault_at, lowest, deep_rule, too_deep, is_bulky, form_fault, tested, refusal_of};
 ghost use Rattle.procedure.specs.Formed.{Formed, Deserved};
 ghost use Rattle.procedure.specs.Level.{level};
 ghost use Rattle.procedure.specs.Rules.{broken_rule};
@@ -59,7 +59,7 @@ impl NamedTable<'_> {
         found
     }
 
-    /// The lowest node that lies too deep. A loop beside the one above: nodes are asked there, and levels here.
+    /// The lowest node that lies too deep. The loop above goes over nodes, and this one over their levels.
     fn lowest_too_deep(&self, levels: &[u16; MAX_NODES]) -> Option<FormFault>
         requires measured { (n : ℕ) → n < length self.now.nodes.now → slice_index levels.now n ≡ level self.now.nodes.now n }
         ensures found { result ≡ lowest (too_deep self.now.nodes.now) (length self.now.nodes.now) }
@@ -72,11 +72,18 @@ impl NamedTable<'_> {
     }
 }
 
+/// Whether a table has no node, or more than 1,024.
+pub fn is_bulky(nodes: &[Node]) -> bool
+    ensures told { result ≡ is_bulky nodes.now }
+{
+    nodes.is_empty() || nodes.len() > MAX_NODES
+}
+
 /// What a table lacks of the form of a procedure: the rule that its lowest broken node breaks.
 pub fn find_form_fault(nodes: &[Node]) -> Option<FormFault>
     ensures fault { result ≡ form_fault nodes.now }
 {
-    if nodes.is_empty() || nodes.len() > MAX_NODES {
+    if is_bulky(nodes) {
         return Some(FormFault::Bulky);
     }
     let table = NamedTable::of(nodes);
@@ -91,7 +98,7 @@ pub fn test_form(nodes: &[Node]) -> Result<(), Refusal>
     ensures verdict { result ≡ tested nodes.now }
     ensures meaning { MatchResult result (λ _. Formed nodes.now) (Deserved nodes.now) }
 {
-    // What was searched for is the error here, so neither `?` nor `ok_or` fits.
+    // The fault that is found is the error, so neither `?` nor `ok_or` fits.
     match find_form_fault(nodes) {
         None => Ok(()),
         Some(fault) => Err(fault.into()),

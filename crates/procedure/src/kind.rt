@@ -5,6 +5,7 @@ ghost use Rattle.procedure.specs.Kind.{kind_of, kind_word};
 use crate::unlisted::Unlisted;
 use std::fmt;
 
+/// What a node is.
 #[derive(Clone, Copy, PartialEq, Eq, Debug)]
 pub enum Kind {
     Procedure,
@@ -13,6 +14,7 @@ pub enum Kind {
     Expression(ExpressionKind),
 }
 
+/// What is declared.
 #[derive(Clone, Copy, PartialEq, Eq, Debug)]
 pub enum DeclarationKind {
     Parameter,
@@ -20,6 +22,7 @@ pub enum DeclarationKind {
     Constant,
 }
 
+/// Which statement.
 #[derive(Clone, Copy, PartialEq, Eq, Debug)]
 pub enum StatementKind {
     Null,
@@ -31,6 +34,7 @@ pub enum StatementKind {
     Put,
 }
 
+/// Which expression.
 #[derive(Clone, Copy, PartialEq, Eq, Debug)]
 pub enum ExpressionKind {
     Numeral,

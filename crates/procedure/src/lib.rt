@@ -27,7 +27,7 @@ pub mod table;
 pub mod types;
 pub mod unlisted;
 
-pub use form::{FormFault, find_form_fault, test_form};
+pub use form::{FormFault, find_form_fault, is_bulky, test_form};
 pub use kind::Kind;
 pub use node::Node;
 pub use refusal::{Reason, Refusal, demand};

@@ -4,6 +4,7 @@ ghost use Rattle.procedure.specs.Operator.{unary_operator_of, binary_operator_of
 
 use crate::unlisted::Unlisted;
 
+/// An operator of one operand.
 #[derive(Clone, Copy, PartialEq, Eq, Debug)]
 pub enum UnaryOperator {
     Plus,
@@ -12,6 +13,7 @@ pub enum UnaryOperator {
     Not,
 }
 
+/// An operator of two operands.
 #[derive(Clone, Copy, PartialEq, Eq, Debug)]
 pub enum BinaryOperator {
     Arithmetic(ArithmeticOperator),
@@ -19,6 +21,7 @@ pub enum BinaryOperator {
     Logical(LogicalOperator),
 }
 
+/// Takes two of INTEGER and gives one.
 #[derive(Clone, Copy, PartialEq, Eq, Debug)]
 pub enum ArithmeticOperator {
     Add,
@@ -29,6 +32,7 @@ pub enum ArithmeticOperator {
     Rem,
 }
 
+/// Takes two of one type and gives a BOOLEAN.
 #[derive(Clone, Copy, PartialEq, Eq, Debug)]
 pub enum RelationalOperator {
     Equal,
@@ -39,6 +43,7 @@ pub enum RelationalOperator {
     GreaterOrEqual,
 }
 
+/// Takes two of BOOLEAN and gives one.
 #[derive(Clone, Copy, PartialEq, Eq, Debug)]
 pub enum LogicalOperator {
     And,

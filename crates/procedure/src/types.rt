@@ -4,6 +4,7 @@ ghost use Rattle.procedure.specs.Types.{type_of};
 
 use crate::names;
 
+/// A type of objects and values.
 #[derive(Clone, Copy, PartialEq, Eq, Debug)]
 pub enum Type {
     Integer,

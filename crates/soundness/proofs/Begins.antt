@@ -2,11 +2,11 @@
 use Rattle.std.proofs.Common.{◌≡◌, ℕ, zero, suc, ◌+◌, ◌<◌, ◌≤◌, Bool, true, false, cond, not, eqb, leb, ◌⊎◌, List, [], ◌∷◌, ◌++◌, reverse, length, drop, ℤ, is_some, Ok, Option, unwrap_or, sym, refl, ap, ◌∙◌, subst, inl, inr, arith}
 use mathlib.Core.List.{reverse_aux}
 use Rattle.std.proofs.lemmas.List.{append-nil, length-append, length-drop, take_at}
-use Rattle.std.proofs.lemmas.Bool.{eqb-true, leb-true}
+use Rattle.std.proofs.lemmas.Bool.{eqb-true, leb-true, true≢false}
 use Rattle.stack.proofs.Newest.{newest-reverse, newest-none}
 use Rattle.port.specs.Meaning.{Meaning}
 use Rattle.procedure.specs.declared.kind.DeclarationKind.{DeclarationKind}
-use Rattle.procedure.specs.declared.kind.DeclarationKind.TheVariants.{Parameter, Variable, Constant}
+use Rattle.procedure.specs.declared.kind.DeclarationKind.TheVariants.{Parameter}
 use Rattle.procedure.specs.declared.refusal.Reason.TheVariants.{Bulky, Unfit, Miscounted, Short}
 use Rattle.procedure.specs.declared.table.Standing.TheVariants.{Declaration}
 use Rattle.procedure.specs.declared.types.«Type».{«Type» as TypeT}
@@ -29,7 +29,7 @@ use Rattle.soundness.proofs.Good.{Opens, opens_end, opens_one, declared_as, Pass
 use Rattle.soundness.proofs.Keep.{arrive, opening_all}
 use Rattle.soundness.proofs.Meets.{Meets, met, meets_then, meets_map, wanted, meets_itself}
 use Rattle.soundness.proofs.Parts.{is_local, parameter-next, no_declaration}
-use Rattle.soundness.proofs.Rows.{Fits, number_fits, true_false}
+use Rattle.soundness.proofs.Rows.{Fits, number_fits}
 use Rattle.soundness.proofs.Safe.{Safe, on_way}
 use Rattle.soundness.proofs.Stack.{stack_none}
 
@@ -63,14 +63,10 @@ opens_more (opens_end q e) l = opens_end q e
 opens_more (opens_one k u c q mk ty r op h) l = opens_one k u c q mk ty r op (omega arith)
 
 parameter_is : (k : DeclarationKind) → is_parameter (Declaration k) ≡ true → k ≡ Parameter
-parameter_is Parameter e = refl
-parameter_is Variable e = true_false (sym e)
-parameter_is Constant e = true_false (sym e)
+parameter_is k e = grind (arith, e)
 
 local_is : (k : DeclarationKind) → is_parameter (Declaration k) ≡ false → is_local k ≡ true
-local_is Parameter e = true_false e
-local_is Variable e = refl
-local_is Constant e = refl
+local_is k e = grind (arith, e)
 
 local_at : (t : Table) (n : ℕ) → is_parameter (standing t n) ≡ false → (k : DeclarationKind) → standing t n ≡ Declaration k → is_local k ≡ true
 local_at t n h k e = local_is k (sym (ap is_parameter e) ∙ h)
@@ -84,7 +80,7 @@ Enters t R Δ c ns e n =
 enter_one : {t : Table} {R : ℕ} {Δ : Environment} {c e : ℕ} (ns : List ℕ) (n : ℕ) → is_parameter (standing t n) ≡ true → (standing t n ≡ Declaration Parameter → Enters t R Δ c ns e (node t n).next)
     → Enters t R Δ c (n ∷ ns) e n
 enter_one ns n b ih acc [] op d tv fit long = absurd (omega arith)
-enter_one ns n b ih acc (v ∷ vs) (opens_end q e) d tv fit long = true_false (sym b ∙ ap is_parameter q)
+enter_one ns n b ih acc (v ∷ vs) (opens_end q e) d tv fit long = absurd (true≢false (sym b ∙ ap is_parameter q))
 enter_one {t} {R} {Δ} {c} ns n b ih acc (v ∷ vs) (opens_one k u c' q mk ty r op l) d tv (fitted_one h fit) long =
     let pk : k ≡ Parameter = parameter_is k (sym (ap is_parameter q) ∙ b) in
     let a : parameter_type t n ≡ u = ap (λ (o : Option TypeT). unwrap_or o Integer) mk in
@@ -115,7 +111,7 @@ enter {t} {R} {Δ} {c} (suc f) n w en = go (is_parameter (standing t n)) refl (e
         → (((node t n).next ≡ 0) ⊎ (length t ≤ f + (node t n).next) → Enters t R Δ c (parameters_from f t (node t n).next) (behind_parameters f t (node t n).next) (node t n).next)
         → Enters t R Δ c (cond b (n ∷ parameters_from f t (node t n).next) []) (cond b (behind_parameters f t (node t n).next) n) n
     go false b ih = λ acc vs op d tv fit long. record { opens = op; declared = d; truths = tv; local = local_at t n b }
-    go true b ih = enter_one (parameters_from f t (node t n).next) n b (λ q. ih (onward (parameter-next t n w.obeys q) en q))
+    go true b ih = enter_one (parameters_from f t (node t n).next) n b (λ q. ih (onward (parameter-next t n w q) en q))
 
 -- what begin promises where it is taken
 pub record Begins (t : Table) (values : List ℤ) (places : List Row) (b : Begun) : Type 0 where

@@ -1,6 +1,6 @@
 -- A go for the rest of the ceiling is taken and ends the run; a safe state is sound.
 use Rattle.std.proofs.Common.{◌≡◌, ℕ, zero, suc, ◌+◌, ◌<◌, ◌≤◌, Bool, true, false, cond, ◌&&◌, leb, ◌≢◌, List, [], ◌∷◌, length, ℤ, is_some, Some, None, Ok, Err, Option, Result, sym, refl, ap, ◌∙◌, subst, subst₂, arith}
-use Rattle.std.proofs.lemmas.Bool.{le-leb, and_from}
+use Rattle.std.proofs.lemmas.Bool.{le-leb, and_from, true≢false}
 use Rattle.stack.specs.Acts.{top}
 use Rattle.port.specs.Meaning.{Meaning, get_answer, put_answer}
 use Rattle.stack.specs.declared.Full.{Full}
@@ -22,7 +22,6 @@ use Rattle.soundness.specs.Evaluation.{Truths}
 use Rattle.soundness.specs.Open.{Open}
 use Rattle.soundness.specs.Sound.{objects, holder, rest_of, Sound}
 use Rattle.soundness.proofs.Keep.{live_open, live_truths, live_left}
-use Rattle.soundness.proofs.Rows.{true_false}
 use Rattle.soundness.proofs.Safe.{is_fair, fair_over, Course, on_way, over, Safe, going_safe}
 use Rattle.soundness.proofs.Stack.{holder_of}
 use Rattle.soundness.proofs.Tables.{Holds, top-some, top-none}
@@ -65,7 +64,7 @@ going_steps (suc n) t s h = go (is_paused (going n t s).progress.outcome) refl h
         let a = ih e in
         let c = carried_steps (decided t (going n t s).rows (going n t s).frames (going n t s).progress.at) (going n t s) in
         omega arith
-    go false e i ih = true_false (sym i ∙ e)
+    go false e i ih = absurd (true≢false (sym i ∙ e))
 
 holder-top : {F : ℕ} (frames : Frames) (fs : List Frame) → Holds F frames fs → holder (top frames) ≡ holder_of fs
 holder-top frames [] h = ap holder (top-none h)
@@ -85,7 +84,7 @@ module _ {t : Table} {sheet : Sheet} {start : Meaning} where
     where
       go : Course sheet.ceiling a.left s.progress.steps s.progress.outcome s.port → s.progress.steps < sheet.ceiling
       go (on_way p l) = let h = live_left a.live in omega arith
-      go (over f l h k) = true_false (sym e ∙ fair_over s.progress.outcome f)
+      go (over f l h k) = absurd (true≢false (sym e ∙ fair_over s.progress.outcome f))
 
   rest-ends : (s : State) → Formed t → Safe t sheet start s → is_paused (going (rest_of sheet s) t s).progress.outcome ≡ false
   rest-ends s w a = go (is_paused (going (rest_of sheet s) t s).progress.outcome) refl
@@ -114,21 +113,21 @@ module _ {t : Table} {sheet : Sheet} {start : Meaning} where
   fair {s} o a f p e = go a.course
     where
       go : Course sheet.ceiling a.left s.progress.steps s.progress.outcome s.port → ⊥
-      go (on_way q l) = true_false (sym (ap is_paused (sym e ∙ q)) ∙ p)
-      go (over g l h k) = true_false (sym g ∙ ap is_fair e ∙ f)
+      go (on_way q l) = absurd (true≢false (sym (ap is_paused (sym e ∙ q)) ∙ p))
+      go (over g l h k) = absurd (true≢false (sym g ∙ ap is_fair e ∙ f))
 
   end_error : {s : State} → Safe t sheet start s → s.progress.outcome ≡ EndError → s.port.waiting ≡ []
   end_error {s} a e = go a.course
     where
       go : Course sheet.ceiling a.left s.progress.steps s.progress.outcome s.port → s.port.waiting ≡ []
-      go (on_way q l) = true_false (sym (ap is_paused (sym e ∙ q)))
+      go (on_way q l) = absurd (true≢false (sym (ap is_paused (sym e ∙ q))))
       go (over g l h k) = h e
 
   use_error : {s : State} → Safe t sheet start s → s.progress.outcome ≡ UseError → s.port.places_left ≡ 0
   use_error {s} a e = go a.course
     where
       go : Course sheet.ceiling a.left s.progress.steps s.progress.outcome s.port → s.port.places_left ≡ 0
-      go (on_way q l) = true_false (sym (ap is_paused (sym e ∙ q)))
+      go (on_way q l) = absurd (true≢false (sym (ap is_paused (sym e ∙ q))))
       go (over g l h k) = k e
 
   pub safe_sound : (s : State) → Formed t → is_bulky t ≡ false → sheet.ceiling ≤ 1000000000 → Safe t sheet start s → Sound t sheet start s

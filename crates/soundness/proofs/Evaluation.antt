@@ -13,7 +13,7 @@ use Rattle.procedure.specs.declared.operator.UnaryOperator.TheVariants.{Plus, Mi
 use Rattle.procedure.specs.declared.types.«Type».{«Type» as TypeT}
 use Rattle.procedure.specs.declared.types.«Type».TheVariants.{Integer as IntegerT, Boolean as BooleanT}
 use Rattle.procedure.specs.Operator.{unary_operator_of, binary_operator_of}
-use Rattle.procedure.specs.Rules.{Obeys}
+use Rattle.procedure.specs.Formed.{Formed}
 use Rattle.procedure.specs.Sequence.{Answer, and_then}
 use Rattle.procedure.specs.Table.{Table, node, part}
 use Rattle.evaluator.specs.declared.rows.Row.{Row}
@@ -121,7 +121,7 @@ record Evaluates (t : Table) (rows : List Row) (l e : ℕ) (of_type : TypeT) : T
 operand_is : (t : Table) (n m : ℕ) (k : ExpressionKind) → m < n → part t m ≡ Some (Expression k) → operand_kind t n m ≡ Ok k
 operand_is t n m k l q = rw (lt-ltb m n l, q)
 
-typed_as_good : (below : ℕ → Answer TypeT) (k : Option Kind) (t : Table) (own : Option ℕ) (rows : List Row) (l e : ℕ) → Obeys t → Truths rows
+typed_as_good : (below : ℕ → Answer TypeT) (k : Option Kind) (t : Table) (own : Option ℕ) (rows : List Row) (l e : ℕ) → Formed t → Truths rows
     → ((m : ℕ) → Meets (Evaluates t rows l m) (below m)) → part t e ≡ k → Meets (Evaluates t rows (suc l) e) (typed_as below k t own (declarations_of rows) e)
 unfolding evaluated
 typed_as_good below None t own rows l e w h ih q = unmet
@@ -147,12 +147,12 @@ typed_as_good below (Some (Expression Binary)) t own rows l e w h ih q =
       comes = rw (operand_is t e (node t e).a i.kind b.0 i.is, operand_is t e (node t e).b j.kind b.1 j.is) c;
     })
 
-typed_good : (l : ℕ) (t : Table) (own : Option ℕ) (rows : List Row) (e : ℕ) → Obeys t → Truths rows → Meets (Evaluates t rows l e) (typed l t own (declarations_of rows) e)
+typed_good : (l : ℕ) (t : Table) (own : Option ℕ) (rows : List Row) (e : ℕ) → Formed t → Truths rows → Meets (Evaluates t rows l e) (typed l t own (declarations_of rows) e)
 unfolding typed
 typed_good zero t own rows e w h = unmet
 typed_good (suc l) t own rows e w h = typed_as_good (typed l t own (declarations_of rows)) (part t e) t own rows l e w h (λ m. typed_good l t own rows m w h) refl
 
 pub evaluation_is_typed : EvaluationIsTyped
 evaluation_is_typed t rows own n e of_type f h q =
-    let i = met_by q (typed_good 32 t own rows e f.obeys h) in
+    let i = met_by q (typed_good 32 t own rows e f h) in
     rw i.is i.comes

@@ -1,5 +1,6 @@
 -- What the check's walk says of a procedure that passes, as relations with room for R rows and F frames.
 use Rattle.std.proofs.Common.{◌≡◌, ℕ, zero, suc, ◌+◌, ◌*◌, ◌<◌, ◌≤◌, Bool, true, false, cond, ◌||◌, eqb, leb, [], ◌∷◌, length, ℤ, pos, negsuc, Some, None, Ok, Option, sym, refl, ap, ◌∙◌, subst, arith}
+use Rattle.std.proofs.lemmas.Bool.{true≢false}
 use Rattle.procedure.specs.declared.kind.DeclarationKind.{DeclarationKind}
 use Rattle.procedure.specs.declared.kind.DeclarationKind.TheVariants.{Parameter, Variable, Constant}
 use Rattle.procedure.specs.declared.kind.StatementKind.{StatementKind}
@@ -25,7 +26,6 @@ use Rattle.checker.proofs.Chains.{variable_chain, declaration_chain, put_chain, 
 use Rattle.checker.proofs.Expressions.{same_true}
 use Rattle.soundness.proofs.Meets.{Meets, met, unmet, meets_then, meets_map, meets_itself, wanted}
 use Rattle.soundness.proofs.Parts.{is_local}
-use Rattle.soundness.proofs.Rows.{true_false}
 
 -- what a declaration, and what a FOR, opens
 abbrev pub declared_as : Node → DeclarationKind → TypeT → DeclarationT
@@ -73,10 +73,7 @@ mark_is (Some (Object u k)) n = unmet
 
 predefined_mark : (a b c : Bool) (u : TypeT) → cond a (Some (Mark Integer)) (cond b (Some (Mark Boolean)) (cond c (Some (Object Boolean true)) None)) ≡ Some (Mark u)
     → cond a (Some Integer) (cond b (Some Boolean) None) ≡ Some u
-predefined_mark true b c u e = cc
-predefined_mark false true c u e = cc
-predefined_mark false false true u e = let z : ◌≡◌ {A = ℕ} 0 1 = cc in absurd (omega arith)
-predefined_mark false false false u e = let z : ◌≡◌ {A = ℕ} 0 1 = cc in absurd (omega arith)
+predefined_mark a b c u e = grind (arith, e)
 
 -- a mark that means a type is predefined
 means_mark : (Γ : Environment) (x : ℕ) (u : TypeT) → means Γ x ≡ Some (Mark u) → type_of x ≡ Some u
@@ -104,7 +101,7 @@ starts_good t Γ u n =
 
 initial_good : (k : DeclarationKind) (t : Table) (Γ : Environment) (u : TypeT) (n : ℕ)
     → Meets (λ _. is_local k ≡ true → typed 32 t (Some (node t n).name) Γ (node t n).a ≡ Ok u) (initial k t Γ u n)
-initial_good Parameter t Γ u n = met (λ e. true_false (sym e))
+initial_good Parameter t Γ u n = met (λ e. absurd (true≢false (sym e)))
 initial_good Variable t Γ u n = meets_map (starts_good t Γ u n) λ _ h e. h
 initial_good Constant t Γ u n = meets_map (starts_good t Γ u n) λ _ h e. h
 

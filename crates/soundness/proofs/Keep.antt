@@ -42,9 +42,11 @@ use Rattle.soundness.specs.Open.{Object as ObjectR, Objects, object, Declared, n
 use Rattle.soundness.specs.Sound.{objects}
 use Rattle.soundness.proofs.Evaluation.{evaluation_is_typed}
 use Rattle.soundness.proofs.Good.{Good, good_end, good_null, good_assign, good_get, good_put, good_branch, good_loop, good_block, Opens, opens_end, opens_one, counter}
-use Rattle.soundness.proofs.Parts.{is_local, local-next, block_local, rooted_at}
+use Rattle.procedure.proofs.Obeys.{holds}
+use Rattle.checker.proofs.Shapes.{part-statement}
+use Rattle.soundness.proofs.Parts.{is_local, local-next, block_local}
 use Rattle.soundness.proofs.Rows.{Fits, integer-fits, value-fits, number_fits, truths_below, length-declarations, assign, declarations_assign, objects_assign, Target, target_of, truths_assign, above-next}
-use Rattle.soundness.proofs.Stack.{kind_at, statement-part, goes_on, holder_of, Stack, stack_none, stack_branch, stack_loop, stack_block, stack_left, stack_assign, open_next}
+use Rattle.soundness.proofs.Stack.{kind_at, goes_on, holder_of, Stack, stack_none, stack_branch, stack_loop, stack_block, stack_left, stack_assign, open_next}
 use Rattle.soundness.proofs.Tables.{Above, here, up, above-length, Holds, held_is, room_for, top-some, top-none, item-newest}
 
 -- the statements of the innermost block, or of the procedure
@@ -274,7 +276,7 @@ keep_block : {t : Table} {R F : ℕ} {rs : List Row} {fs : List Frame} {Δ : Env
 keep_block {t} {R} {F} {rs} {fs} rows frames at c₁ c₂ c m' m w hr hf q r b g₁ g s o f l =
     rw (q, room_for hf r)
     (entering (c₁ + c₂ + suc (c + m')) r
-    (arrive (node t at).a c₁ c₂ (suc (c + m')) (λ j. block_local t at j w.obeys (statement-part t at Block q)) b g₁ (opening_block (objects rs) q o none) under f (omega arith)) (omega arith))
+    (arrive (node t at).a c₁ c₂ (suc (c + m')) (λ j. block_local t at j w (part-statement t at Block q)) b g₁ (opening_block (objects rs) q o none) under f (omega arith)) (omega arith))
   where
     under : Stack t R F rs (frame_at at rows ∷ fs) (suc (c + m'))
     under = stack_block rs c m' q (held_is hr) here o g s (omega arith)
@@ -295,7 +297,7 @@ keep_statement rows frames at c m' m w hr hf (good_block Δ c₁ c₂ c₃ q r b
 -- one declaration
 behind-first : {t : Table} {F : ℕ} {fs : List Frame} {d : ℕ} {Δ : Objects} (frames : Frames) (n : ℕ) → Formed t → Holds F frames fs → Opening t fs d Δ
     → behind t (top frames) n ≡ Ok (first_of n (body t fs))
-behind-first {t} frames zero w hf (opening_all d) = rw (top-none hf, rooted_at t w.obeys w.some)
+behind-first {t} frames zero w hf (opening_all d) = rw (top-none hf, (holds t 0 (w.obeys 0 w.some)).rooted_at)
 behind-first {t} frames zero w hf (opening_block {f = f} Γ b o d) = rw (top-some hf, kind_at t f.node Block b)
 behind-first {t} {fs = fs} frames (suc n) w hf o = not_zero n (behind_last t (top frames)) (Ok (suc n)) ∙ ap Ok (sym (first_suc n (body t fs)))
 
@@ -338,7 +340,7 @@ keep_declaration {t} {R} {F} {rs} {fs} {Δ} rows frames k at c₁ c₂ m' m w hr
     go v (gives x p i) =
         rw (q, declares_is k' t rows frames at local, behind-first frames (node t at).next w hf o, p, mk, suits u x i, room_for hr v)
         (opening (c + c₂ + m') v
-        (arrive (node t at).next c c₂ m' (λ j. local-next t at k' j w.obeys local q) op g (opening_more k' u q mk o) (stack_push _ o s)
+        (arrive (node t at).next c c₂ m' (λ j. local-next t at k' j w local q) op g (opening_more k' u q mk o) (stack_push _ o s)
         (more (subst (λ j. Fits j (number_of x)) i (value-fits x)) f) (omega arith)) (omega (arith, cost)))
 
 -- what is decided at a place that runs well

@@ -2,7 +2,8 @@
 use Rattle.std.proofs.Common.{◌≡◌, ℕ, zero, suc, ◌-◌, ◌<◌, Bool, true, false, cond, ◌||◌, eqb, ◌⊎◌, List, [], ◌∷◌, length, set, ℤ, pos, negsuc, ◌+ℤ◌, is_some, Some, None, sym, refl, ap, ◌∙◌, subst, inl, inr, arith}
 use lib.IntN.{suc_ℤ, +ℤ_one}
 use lib.Signed.{lt_z}
-use Rattle.std.proofs.lemmas.Bool.{ltb-true}
+use Rattle.std.proofs.lemmas.Bool.{ltb-true, false≢true}
+use Rattle.std.proofs.lemmas.Option.{none-some, same_Some}
 use Rattle.procedure.specs.declared.types.«Type».{«Type» as TypeT}
 use Rattle.procedure.specs.declared.types.«Type».TheVariants.{Integer as IntegerT, Boolean as BooleanT}
 use Rattle.evaluator.specs.declared.rows.Placed.{Placed}
@@ -18,18 +19,6 @@ use Rattle.checker.specs.Names.{means}
 use Rattle.soundness.specs.Evaluation.{declaration_of, declarations_of, Truths, none, more}
 use Rattle.soundness.specs.Sound.{object_of, objects}
 use Rattle.soundness.proofs.Tables.{Above, here, up}
-
-pub true_false : {P : Type 0} → true ≡ false → P
-true_false e = let z : ◌≡◌ {A = ℕ} 0 1 = cc in absurd (omega arith)
-
-pub false_true : {P : Type 0} → false ≡ true → P
-false_true e = let z : ◌≡◌ {A = ℕ} 0 1 = cc in absurd (omega arith)
-
-pub none-some : {A : Type 0} {P : Type 0} {x : A} → None ≡ Some x → P
-none-some e = let z : ◌≡◌ {A = ℕ} 0 1 = cc in absurd (omega arith)
-
-pub some_same : {A : Type 0} {x y : A} → Some x ≡ Some y → x ≡ y
-some_same e = cc
 
 -- 0 or 1, where the type is BOOLEAN
 abbrev pub Fits : TypeT → ℤ → Type 0
@@ -48,7 +37,7 @@ number_fits IntegerT z h e = let z : ◌≡◌ {A = ℕ} 0 1 = cc in absurd (ome
 number_fits BooleanT (pos zero) h e = inl refl
 number_fits BooleanT (pos (suc zero)) h e = inr refl
 number_fits BooleanT (pos (suc (suc n))) h e = grind (arith, h)
-number_fits BooleanT (negsuc n) h e = false_true h
+number_fits BooleanT (negsuc n) h e = absurd (false≢true h)
 
 pub truths_below : {rest rows : List Row} → Above rest rows → Truths rows → Truths rest
 truths_below here f = f
@@ -91,10 +80,7 @@ pub record Target (x : ℕ) (rows : List Row) (of_type : TypeT) : Type 0 where
   pub free : found.row.constant ≡ false
 
 predefined-constant : {P : Type 0} (a b c : Bool) (u : TypeT) → cond a (Some (Mark IntegerT)) (cond b (Some (Mark BooleanT)) (cond c (Some (Object BooleanT true)) None)) ≡ Some (Object u false) → P
-predefined-constant true b c u e = let z : ◌≡◌ {A = ℕ} 0 1 = cc in absurd (omega arith)
-predefined-constant false true c u e = let z : ◌≡◌ {A = ℕ} 0 1 = cc in absurd (omega arith)
-predefined-constant false false true u e = let z : true ≡ false = cc in true_false z
-predefined-constant false false false u e = let z : ◌≡◌ {A = ℕ} 0 1 = cc in absurd (omega arith)
+predefined-constant a b c u e = absurd (grind (arith, e))
 
 pub target_of : (x : ℕ) (rows : List Row) (u : TypeT) → means (declarations_of rows) x ≡ Some (Object u false) → Target x rows u
 target_of x [] u e = predefined-constant (eqb x 1) (eqb x 2) (eqb x 15 || eqb x 16) u e
@@ -111,14 +97,14 @@ pub record Written (x : ℕ) (z : ℤ) (rows : List Row) (p : Placed) : Type 0 w
   pub same : set rows (length rows - 1 - p.place) (row_with p.row z) ≡ assign x z rows
 
 pub written : (x : ℕ) (z : ℤ) (rows : List Row) (p : Placed) → topmost x rows ≡ Some p → Written x z rows p
-written x z [] p e = none-some e
+written x z [] p e = absurd (none-some p e)
 written x z (r ∷ rows) p e = go (eqb r.name x) refl e (written x z rows p)
   where
     go : (b : Bool) → eqb r.name x ≡ b → cond b (Some (record { place = length rows; row = r })) (topmost x rows) ≡ Some p → (topmost x rows ≡ Some p → Written x z rows p)
         → Written x z (r ∷ rows) p
     go true h q ih =
         let i : suc (length rows) - 1 - length rows ≡ 0 = omega arith in
-        subst (λ (o : Placed). Written x z (r ∷ rows) o) (some_same q) (record { within = omega arith; same = rw h (ap (λ n. set (r ∷ rows) n (row_with r z)) i) })
+        subst (λ (o : Placed). Written x z (r ∷ rows) o) (same_Some _ _ q) (record { within = omega arith; same = rw h (ap (λ n. set (r ∷ rows) n (row_with r z)) i) })
     go false h q ih =
         let w = ih q in
         let l = w.within in
@@ -131,7 +117,7 @@ truths_assign x z (r ∷ rows) p (more g f) e h = go (eqb r.name x) e (λ q. tru
   where
     go : (b : Bool) → cond b (Some (record { place = length rows; row = r })) (topmost x rows) ≡ Some p → (topmost x rows ≡ Some p → Truths (assign x z rows))
         → Truths (cond b (row_with r z ∷ rows) (r ∷ assign x z rows))
-    go true q ih = more (subst (λ (o : Placed). Fits o.row.of_type z) (sym (some_same q)) h) f
+    go true q ih = more (subst (λ (o : Placed). Fits o.row.of_type z) (sym (same_Some _ _ q)) h) f
     go false q ih = more g (ih q)
 
 -- an assignment changes the rows above, or those below
@@ -149,7 +135,7 @@ assign_above x z {rest} (up {x = r} {xs = rows} a) = go (eqb r.name x) (assign_a
 
 above_suc : (v h : ℤ) → lt_z v h ≡ true → above v h ≡ suc (above (suc_ℤ v) h)
 above_suc (pos a) (pos b) e = let l = ltb-true a b e in omega arith
-above_suc (pos a) (negsuc b) e = false_true e
+above_suc (pos a) (negsuc b) e = absurd (false≢true e)
 above_suc (negsuc zero) (pos b) e = omega arith
 above_suc (negsuc (suc a)) (pos b) e = omega arith
 above_suc (negsuc zero) (negsuc b) e = let l = ltb-true b 0 e in omega arith

@@ -1,13 +1,14 @@
 -- The frames, each with what is open and what is left to do when its list has ended.
-use Rattle.std.proofs.Common.{◌≡◌, ℕ, zero, suc, ◌+◌, ◌*◌, ◌≤◌, Bool, true, false, cond, eqb, ◌⊎◌, List, [], ◌∷◌, length, ℤ, Some, None, Option, sym, ap, ◌∙◌, inl, inr, arith}
+use Rattle.std.proofs.Common.{◌≡◌, ℕ, suc, ◌+◌, ◌*◌, ◌≤◌, Bool, true, false, cond, eqb, ◌⊎◌, List, [], ◌∷◌, length, ℤ, Some, Option, sym, ap, ◌∙◌, inl, inr, arith}
+use Rattle.std.proofs.lemmas.Bool.{true≢false}
 use Rattle.procedure.specs.declared.kind.Kind.{Kind}
-use Rattle.procedure.specs.declared.kind.Kind.TheVariants.{Procedure as ProcedureK, Declaration as DeclarationK, Statement as StatementK, Expression as ExpressionK}
+use Rattle.procedure.specs.declared.kind.Kind.TheVariants.{Statement as StatementK}
 use Rattle.procedure.specs.declared.kind.StatementKind.{StatementKind}
 use Rattle.procedure.specs.declared.kind.StatementKind.TheVariants.{If, For, Block}
 use Rattle.procedure.specs.declared.table.Standing.TheVariants.{End, Statement}
 use Rattle.procedure.specs.declared.types.«Type».{«Type» as TypeT}
 use Rattle.procedure.specs.Kind.{kind_of}
-use Rattle.procedure.specs.Table.{Table, node, part, standing, standing_of}
+use Rattle.procedure.specs.Table.{Table, node, standing, standing_of}
 use Rattle.evaluator.specs.declared.rows.Row.{Row}
 use Rattle.machine.specs.declared.frame.Frame.{Frame}
 use Rattle.machine.specs.Decide.{row_with}
@@ -15,38 +16,21 @@ use Rattle.checker.specs.declared.names.Declaration.{Declaration}
 use Rattle.checker.specs.declared.names.Meaning.TheVariants.{Object}
 use Rattle.checker.specs.Cost.{above}
 use Rattle.checker.specs.Names.{means}
+use Rattle.checker.proofs.Shapes.{kind-part, part-statement}
 use Rattle.soundness.specs.Evaluation.{declaration_of, declarations_of}
 use Rattle.soundness.specs.Open.{Objects, on, declaring, stating, Open, outermost, in_then, in_else, in_loop, in_block}
 use Rattle.soundness.specs.Sound.{objects}
 use Rattle.soundness.proofs.Good.{Good, counter}
-use Rattle.soundness.proofs.Rows.{assign, declarations_assign, objects_assign, length_assign, assign_above, true_false}
+use Rattle.soundness.proofs.Rows.{assign, declarations_assign, objects_assign, length_assign, assign_above}
 use Rattle.soundness.proofs.Tables.{Above}
 
--- kinds of nodes, told by what stands at them
-statement_is : (o : Option Kind) (k : StatementKind) → standing_of o ≡ Statement k → o ≡ Some (StatementK k)
-statement_is None k e = let z : ◌≡◌ {A = ℕ} 0 1 = cc in absurd (omega arith)
-statement_is (Some ProcedureK) k e = let z : ◌≡◌ {A = ℕ} 0 1 = cc in absurd (omega arith)
-statement_is (Some (DeclarationK j)) k e = let z : ◌≡◌ {A = ℕ} 0 1 = cc in absurd (omega arith)
-statement_is (Some (StatementK j)) k e = cc
-statement_is (Some (ExpressionK j)) k e = let z : ◌≡◌ {A = ℕ} 0 1 = cc in absurd (omega arith)
-
 pub kind_at : (t : Table) (n : ℕ) (k : StatementKind) → standing t n ≡ Statement k → kind_of (node t n).kind ≡ Some (StatementK k)
-kind_at t zero k e = let z : ◌≡◌ {A = ℕ} 0 1 = cc in absurd (omega arith)
-kind_at t (suc n) k e = statement_is (kind_of (node t (suc n)).kind) k e
-
-pub statement-part : (t : Table) (n : ℕ) (k : StatementKind) → standing t n ≡ Statement k → part t n ≡ Some (StatementK k)
-statement-part t zero k e = let z : ◌≡◌ {A = ℕ} 0 1 = cc in absurd (omega arith)
-statement-part t (suc n) k e = statement_is (kind_of (node t (suc n)).kind) k e
-
-no_end : {P : Type 0} (o : Option Kind) → standing_of o ≡ End → P
-no_end None e = let z : ◌≡◌ {A = ℕ} 0 1 = cc in absurd (omega arith)
-no_end (Some ProcedureK) e = let z : ◌≡◌ {A = ℕ} 0 1 = cc in absurd (omega arith)
-no_end (Some (DeclarationK j)) e = let z : ◌≡◌ {A = ℕ} 0 1 = cc in absurd (omega arith)
-no_end (Some (StatementK j)) e = let z : ◌≡◌ {A = ℕ} 0 1 = cc in absurd (omega arith)
-no_end (Some (ExpressionK j)) e = let z : ◌≡◌ {A = ℕ} 0 1 = cc in absurd (omega arith)
+kind_at t n k e = kind-part t n (StatementK k) (part-statement t n k e)
 
 pub goes_on : {P : Type 0} (t : Table) (n : ℕ) → standing t (suc n) ≡ End → P
-goes_on t n e = no_end (kind_of (node t (suc n)).kind) e
+goes_on t n e = absurd (no_end (kind_of (node t (suc n)).kind) e) where
+  no_end : (o : Option Kind) → standing_of o ≡ End → ⊥
+  no_end o q = grind (arith, q)
 
 -- the statement that holds the list under way, by the frames the newest first
 abbrev pub holder_of : List Frame → ℕ
@@ -85,7 +69,7 @@ stack_assign {t} {R} {F} x z u e (stack_loop {r = r} {rows = rows} {f = f} {fs =
     go : (b : Bool) → cond b (Some (Object r.of_type r.constant)) (means (declarations_of rows) x) ≡ Some (Object u false)
         → (means (declarations_of rows) x ≡ Some (Object u false) → Stack t R F (assign x z rows) fs m')
         → Stack t R F (cond b (row_with r z ∷ rows) (r ∷ assign x z rows)) (f ∷ fs) m
-    go true w ih = let i : r.constant ≡ true = ap (λ (d : Declaration). d.constant) p in let j : r.constant ≡ false = cc in true_false (sym i ∙ j)
+    go true w ih = let i : r.constant ≡ true = ap (λ (d : Declaration). d.constant) p in let j : r.constant ≡ false = cc in absurd (true≢false (sym i ∙ j))
     go false w ih =
         stack_loop c₁ c m' q (k ∙ sym (length_assign x z rows)) p (rw (objects_assign x z rows) op) (rw (declarations_assign x z rows) b) (rw (declarations_assign x z rows) g) (ih w) l
 stack_assign {t} {R} {F} x z u e (stack_block {rows = rows} {f = f} {fs = fs} {m = m} rest c m' q k a op g s l) =

@@ -1,10 +1,10 @@
 -- The items newest first: what is written, cut and read.
-use Rattle.std.proofs.Common.{◌≡◌, ℕ, zero, suc, ◌+◌, ◌-◌, ◌<◌, ◌≤◌, min, List, [], ◌∷◌, ◌++◌, reverse, length, get_or, take, drop, set, Some, None, Option, sym, refl, ap, ◌∙◌, ⊎_elim, arith}
+use Rattle.std.proofs.Common.{◌≡◌, ℕ, zero, suc, ◌+◌, ◌-◌, ◌<◌, ◌≤◌, min, List, [], ◌∷◌, ◌++◌, reverse, length, get_or, take, drop, set, Some, None, Option, sym, refl, ap, ◌∙◌, arith}
 use native.Mathlib.Numerals.{unary_clauses}
 use Rattle.std.specs.List.{slice_get}
 use Rattle.std.proofs.lemmas.Option.{slice_get-get_or}
-use Rattle.std.proofs.lemmas.List.{append-nil, reverse-append, length-reverse, length-drop, length-take, length-take-le, take-append-drop, drop_at, take-set-le, take-take, take_more_set, take_all, get_or-reverse, get_or-take, get_or-set_same, get_or-set_other, length-set, same_lists}
-use Rattle.std.proofs.lemmas.Bool.{cases_lt, cases_eq}
+use Rattle.std.proofs.lemmas.List.{append-nil, reverse-append, length-reverse, length-drop, length-take-le, take-append-drop, drop_at, take-set-le, take-take, take_more_set, get_or-reverse, get_or-take, get_or-set_same, get_or-set_other, length-set, same_lists}
+use Rattle.std.proofs.lemmas.Bool.{cases_eq}
 use Rattle.stack.specs.Tables.{before, newest, Kept}
 
 module _ {T : Type 0} where
@@ -12,7 +12,7 @@ module _ {T : Type 0} where
   take_nth zero [] = refl
   take_nth zero (x ∷ xs) = refl
   take_nth (suc n) [] = refl
-  take_nth (suc n) (x ∷ xs) = ap (λ ys. x ∷ ys) (take_nth n xs)
+  take_nth (suc n) (x ∷ xs) = rw (take_nth n xs)
 
   reverse-before : (o : Option T) (ys : List T) → before o (reverse ys) ≡ reverse (ys ++ before o [])
   reverse-before None ys = ap reverse (sym (append-nil ys))
@@ -23,6 +23,10 @@ module _ {T : Type 0} where
   newest-reverse zero xs = refl
   newest-reverse (suc n) xs =
       ap (before (slice_get xs n)) (newest-reverse n xs) ∙ reverse-before (slice_get xs n) (take n xs) ∙ ap reverse (sym (take_nth n xs))
+
+  pub newest_next : (n : ℕ) (xs : List T) (d : T) → n < length xs → newest (suc n) xs ≡ get_or xs n d ∷ newest n xs
+  unfolding newest
+  newest_next n xs d h = rw (slice_get-get_or xs n d h)
 
   pub newest-none : (n : ℕ) (xs : List T) → n ≡ 0 → newest n xs ≡ []
   unfolding newest
@@ -44,9 +48,8 @@ module _ {T : Type 0} where
       ∙ ap (λ ys. x ∷ ys) (sym (newest-reverse n xs))
 
   pub newest_less : (n : ℕ) (xs : List T) (d : T) → 0 < n → n ≤ length xs → newest n xs ≡ get_or xs (n - 1) d ∷ newest (n - 1) xs
-  unfolding newest
   newest_less zero xs d p h = absurd (omega arith)
-  newest_less (suc n) xs d p h = simp unary_clauses (ap (λ o. before o (newest n xs)) (slice_get-get_or xs n d h))
+  newest_less (suc n) xs d p h = simp unary_clauses (newest_next n xs d (omega arith))
 
   pub newest-take : (k n : ℕ) (xs : List T) → k ≤ n → newest k (take n xs) ≡ newest k xs
   newest-take k n xs h = newest-reverse k (take n xs) ∙ ap reverse (take-take k n xs h) ∙ sym (newest-reverse k xs)
@@ -59,11 +62,10 @@ module _ {T : Type 0} where
       sym (ap (drop (length ys - n)) split ∙ drop_at (reverse (drop n ys)) (reverse (take n ys)) (length ys - n) long)
 
   pub take_min : (n h : ℕ) (xs : List T) → take (min n h) xs ≡ take n (take h xs)
-  take_min n h xs =
-      let P : Type 0 = take (min n h) xs ≡ take n (take h xs) in
-      let under : n < h → P = λ l. ap (λ k. take k xs) (omega arith) ∙ sym (take-take n h xs (omega arith)) in
-      let over : h ≤ n → P = λ l. ap (λ k. take k xs) (omega arith) ∙ sym (take_all n (take h xs) (simp length-take (omega arith))) in
-      ⊎_elim under over (cases_lt n h)
+  take_min zero h xs = simp unary_clauses
+  take_min (suc n) zero xs = simp unary_clauses
+  take_min (suc n) (suc h) [] = simp unary_clauses
+  take_min (suc n) (suc h) (x ∷ xs) = simp unary_clauses (ap (λ ys. x ∷ ys) (take_min n h xs))
 
   pub newest-cut : (n h : ℕ) (xs : List T) → h ≤ length xs → newest (min n h) xs ≡ drop (h - n) (newest h xs)
   newest-cut n h xs l =

@@ -1,8 +1,8 @@
 -- The laws of the two views, table by table.
-use Rattle.std.proofs.Common.{◌≡◌, ℕ, zero, suc, ◌+◌, ◌-◌, ◌<◌, ◌≤◌, List, [], ◌∷◌, ◌++◌, length, get_or, take, set, Some, sym, refl, ap, ◌∙◌, arith}
+use Rattle.std.proofs.Common.{◌≡◌, ℕ, zero, suc, ◌+◌, ◌-◌, ◌<◌, ◌≤◌, List, [], ◌∷◌, ◌++◌, length, get_or, take, set, Some, sym, ap, ◌∙◌, arith}
 use lib.Seq.{take-set-lt}
 use Rattle.std.specs.List.{slice_get}
-use Rattle.std.proofs.lemmas.Option.{slice_get-get_or}
+use Rattle.std.proofs.lemmas.Option.{slice_get-get_or, slice_get_within, get_or_from_slice_get}
 use Rattle.std.proofs.lemmas.List.{length-take-le, take-set-le, take_more, take_more_set, get_or-take, get_or_push, length_push, length-set}
 use Rattle.stack.specs.Tables.{newest}
 use Rattle.stack.specs.Laws.{NewestIsReversedOldest, AsLongAsHeld, ActsStayWithin, PutAddsNewest, LastPutFirstOff, TakingOffTakesNewest, CutLeavesOldest, ReplaceWritesOne, TopIsNewest, ReadFromEitherEnd, LowerAreKept}
@@ -33,12 +33,10 @@ module _ {T : Type 0} where
       )
 
   top_read : (n : ℕ) (xs : List T) (x : T) → n ≤ length xs → slice_get (take n xs) (n - 1) ≡ Some x → (0 < n) × (get_or xs (n - 1) x ≡ x)
-  top_read zero xs x h e = let z : ◌≡◌ {A = ℕ} 0 1 = cc in absurd (omega arith)
-  top_read (suc n) xs x h e =
-      let long : length (take (suc n) xs) ≡ suc n = length-take-le (suc n) xs h in
-      let a = slice_get-get_or (take (suc n) xs) (suc n - 1) x (omega arith) in
-      let b = get_or-take (suc n) xs (suc n - 1) x (omega arith) in
-      (omega arith, cc)
+  top_read n xs x h e =
+      let within : n - 1 < length (take n xs) = slice_get_within _ _ x e in
+      let some : 0 < n = omega (arith, length-take-le n xs h) in
+      (some, sym (get_or-take n xs (n - 1) x (omega arith)) ∙ get_or_from_slice_get (take n xs) (n - 1) x x e)
 
   pub taking_off_takes_newest : TakingOffTakesNewest T
   taking_off_takes_newest x t h e =
@@ -56,7 +54,7 @@ module _ {T : Type 0} where
   replace_writes_one i x t p h = (take-set-lt t.held t.places i x p, newest-replace i t.held t.places x p h)
 
   first-newest : (n : ℕ) (xs : List T) → n ≤ length xs → slice_get (take n xs) (n - 1) ≡ slice_get (newest n xs) 0
-  first-newest zero xs h = sym (ap (λ ys. slice_get ys 0) (newest-none 0 xs refl))
+  first-newest zero xs h = rw newest-none
   first-newest (suc n) xs h = ap (slice_get (take (suc n) xs)) (omega arith) ∙ sym (slice_get-newest 0 (suc n) xs (omega arith) h)
 
   pub top_is_newest : TopIsNewest T

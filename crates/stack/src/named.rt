@@ -8,6 +8,7 @@ pub trait Named {
     // The name that an item has.
     ghost named: { Self → ℕ };
 
+    /// Its name.
     fn name(&self) -> u16
         ensures name { result ≡ named self.now };
 }

@@ -1,17 +1,11 @@
 -- How the program tells why it does not succeed. Assumes nothing.
 use Rattle.std.specs.Prelude.{ℕ, List, ◌++◌, Some, None, codes, Option}
-use Rattle.files.specs.declared.number.NumberFault.{NumberFault}
-use Rattle.files.specs.declared.number.NumberFault.TheVariants.{NoNumber, OutOfRange}
-use Rattle.files.specs.Message.{file_fault_text}
+use Rattle.files.specs.Message.{number_fault_text, file_fault_text}
 use Rattle.procedure.specs.Refusal.{refusal_text}
 use Rattle.station.specs.declared.failure.Failure.{Failure}
 use Rattle.station.specs.declared.failure.Failure.TheVariants.{Usage, Unread, Faulty, Operand, NotFormed, NotPassed, Unset, Io}
 use Rattle.station.specs.Report.{refused_text, rule_line, kind_line}
 use Rattle.station.specs.Verb.{usage_text}
-
-abbrev pub operand_text : NumberFault → List ℕ
-operand_text NoNumber = codes " is no decimal number"
-operand_text OutOfRange = codes " is out of range"
 
 -- None where the text is the system's
 abbrev pub failure_text : Failure → Option (List ℕ)
@@ -20,7 +14,7 @@ failure_text (Usage word fault) =
 failure_text (Unread path error) = None
 failure_text (Faulty path fault) = Some (codes "station: " ++ (path.now ++ (codes ": " ++ file_fault_text fault)))
 failure_text (Operand name word fault) =
-    Some (codes "station: calibrate: " ++ (name.now ++ (codes ": " ++ (word.now ++ operand_text fault))))
+    Some (codes "station: calibrate: " ++ (name.now ++ (codes ": " ++ (word.now ++ (codes " " ++ number_fault_text fault)))))
 failure_text (NotFormed refused) = refused_text (λ b. Some (rule_line b)) refused
 failure_text (NotPassed refused) = refused_text (λ n. Some (kind_line n)) refused
 failure_text (Unset refusal) = Some (codes "refused: " ++ refusal_text refusal)

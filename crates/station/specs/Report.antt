@@ -32,12 +32,12 @@ abbrev pub form_report : Table → Result Formed (Refused BrokenRule)
 form_report t = reported (length t) (form_fault t)
 
 -- the refusal of a procedure, and the kind of the node told
-abbrev pub refused_at : Table → Refusal → Refused NodeKind
-refused_at t r = record { refusal = r; detail = option_map (λ k. record { node = r.node; kind = k }) (kind_of (node t r.node).kind) }
+abbrev pub refused_with_kind : Table → Refusal → Refused NodeKind
+refused_with_kind t r = record { refusal = r; detail = option_map (λ k. record { node = r.node; kind = k }) (kind_of (node t r.node).kind) }
 
 abbrev pub checked_report : Table → Result Sheet Refusal → Result Passed (Refused NodeKind)
 checked_report t (Ok s) = Ok (record { sheet = s })
-checked_report t (Err r) = Err (refused_at t r)
+checked_report t (Err r) = Err (refused_with_kind t r)
 
 -- the check with a working table of 256 places, and the kind of the node told
 abbrev pub check_report : Table → Result Passed (Refused NodeKind)

@@ -77,16 +77,9 @@ impl fmt::Display for Failure<'_> {
             ),
             Failure::Unread(path, error) => write!(f, "station: {path}: cannot be read: {error}"),
             Failure::Faulty(path, fault) => write!(f, "station: {path}: {fault}"),
-            Failure::Operand { name, word, fault } => match fault {
-                NumberFault::NoNumber => write!(
-                    f,
-                    "station: calibrate: {name}: {word} is no decimal number"
-                ),
-                NumberFault::OutOfRange => write!(
-                    f,
-                    "station: calibrate: {name}: {word} is out of range"
-                ),
-            },
+            Failure::Operand { name, word, fault } => {
+                write!(f, "station: calibrate: {name}: {word} {fault}")
+            }
             Failure::NotFormed(refused) => write!(f, "{refused}"),
             Failure::NotPassed(refused) => write!(f, "{refused}"),
             Failure::Unset(refusal) => write!(f, "refused: {refusal}"),

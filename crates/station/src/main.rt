@@ -1,8 +1,8 @@
 //! The program of a station: what an engineer asks at the command line.
 //!
 //! It is thin. Files are read by `files`, procedures are tested by `procedure`, and each of these promises what it answers;
-//! here stand the commands and the lines that they print. What goes wrong is a `Failure`, told by `main` alone, and ends
-//! with status 1.
+//! here stand the commands and the lines that they print. What goes wrong is a `Failure`, told in one place, and ends with
+//! status 1.
 #![tactic(auto)]
 
 mod calibrate;
@@ -53,7 +53,7 @@ fn main(rt: HostRuntime) -> ExitCode {
     match run(&rt, words.as_slice()) {
         Ok(()) => ExitCode::SUCCESS,
         Err(failure) => {
-            // a failure that cannot be told ends with the same status
+            // A failure that cannot be told ends with the same status.
             let _ = tell(&rt, failure);
             ExitCode::FAILURE
         }
@@ -70,7 +70,7 @@ fn command_line(rt: &HostRuntime) -> io::Result<Vec<String>> {
 fn tell(rt: &HostRuntime, failure: Failure) -> io::Result<()> {
     match failure {
         Failure::NotFormed(_) | Failure::NotPassed(_) | Failure::Unset(_) => rt.println(failure),
-        // where reading the command line or printing fails, nothing is printed
+        // Where reading the command line or printing fails, nothing is printed.
         Failure::Io(_) => Ok(()),
         _ => rt.eprintln(failure),
     }
@@ -99,7 +99,7 @@ fn run<'a>(rt: &HostRuntime, words: &'a [String]) -> Result<(), Failure<'a>> {
             [amplitude, half_period, count],
             more,
         ),
-        // `take` lets no other number of words through
+        // `take` lets no other number of words through.
         _ => unreachable!(),
     }
 }
@@ -118,7 +118,7 @@ fn run_form<'a>(rt: &HostRuntime, path: &'a str) -> Result<(), Failure<'a>> {
     Ok(())
 }
 
-/// `station check FILE`. Beside `run_form`: a call by a bound that names a lifetime has no proof where `'static` is named too.
+/// `station check FILE`. It stands beside `run_form`: one function for both, generic over the report, would have no proof.
 fn run_check<'a>(rt: &HostRuntime, path: &'a str) -> Result<(), Failure<'a>> {
     let nodes = read_file(rt, path)?;
     let passed = report_check(nodes.as_slice())?;

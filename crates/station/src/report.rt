@@ -9,7 +9,7 @@ use procedure::{FormFault, Kind, Node, Refusal, Rule, find_form_fault};
 use std::fmt;
 
 /// A table was refused: the refusal, and what a line beneath it tells.
-#[derive(Clone, Copy)]
+#[derive(Clone, Copy, PartialEq, Eq, Debug)]
 pub struct Refused<D> {
     pub refusal: Refusal,
     pub detail: Option<D>,
@@ -29,7 +29,7 @@ impl<D: fmt::Display> fmt::Display for Refused<D> {
 }
 
 /// A table that has the form of a procedure: how many nodes it has.
-#[derive(Clone, Copy)]
+#[derive(Clone, Copy, PartialEq, Eq, Debug)]
 pub struct Formed {
     pub nodes: usize,
 }
@@ -45,7 +45,7 @@ impl fmt::Display for Formed {
 }
 
 /// The rule that a table breaks.
-#[derive(Clone, Copy)]
+#[derive(Clone, Copy, PartialEq, Eq, Debug)]
 pub struct BrokenRule {
     pub rule: Rule,
 }
@@ -88,7 +88,7 @@ pub fn report_form(nodes: &[Node]) -> Result<Formed, Refused<BrokenRule>>
 }
 
 /// A procedure that passes the check: what it needs.
-#[derive(Clone, Copy)]
+#[derive(Clone, Copy, PartialEq, Eq, Debug)]
 pub struct Passed {
     pub sheet: Sheet,
 }
@@ -104,7 +104,7 @@ impl fmt::Display for Passed {
 }
 
 /// The kind of a node.
-#[derive(Clone, Copy)]
+#[derive(Clone, Copy, PartialEq, Eq, Debug)]
 pub struct NodeKind {
     pub node: u16,
     pub kind: Kind,

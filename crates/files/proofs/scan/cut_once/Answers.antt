@@ -10,11 +10,9 @@ use Rattle.files.proofs.scan.cut_once.Goals as goal
 pub returns-in-Some : goal.returns-in-Some
 returns-in-Some c =
     let found = position_from_yields_List (cuts c.args.separator) _ _ c.position.result c.position.ensures.ran (YieldsList-from_slice c.args.text.now cc) (λ x b q k. search (rules, tests)) in
-    let cut = cut_here c.args.separator c.args.text.now c.in-Some.i (sym c.in-Some.is ∙ found) in
-    search (rules, take_rest)
+    search (rules, take_rest, cut_here c.args.separator c.args.text.now c.in-Some.i (sym c.in-Some.is ∙ found))
 
 pub returns-in-None : goal.returns-in-None
 returns-in-None c =
     let found = position_from_yields_List (cuts c.args.separator) _ _ c.position.result c.position.ensures.ran (YieldsList-from_slice c.args.text.now cc) (λ x b q k. search (rules, tests)) in
-    let cut = cut_nowhere c.args.separator c.args.text.now (sym c.in-None.is ∙ found) in
-    search rules
+    search (rules, cut_nowhere c.args.separator c.args.text.now (sym c.in-None.is ∙ found))

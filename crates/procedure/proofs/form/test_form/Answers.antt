@@ -10,12 +10,8 @@ use Rattle.procedure.proofs.form.test_form.Goals as goal
 meant : (t : Table) (r : Result (Unit {0}) Refusal) → r ≡ tested t → MatchResult r (λ _. Formed t) (Deserved t)
 meant t r e = subst (λ x. MatchResult x (λ _. Formed t) (Deserved t)) (sym e) (judged t)
 
-pub returns-in-None : goal.returns-in-None
-returns-in-None c =
-    let v : Ok (tt {0}) ≡ tested c.args.nodes.now = search rules in
-    record { verdict = v; meaning = meant c.args.nodes.now (Ok tt) v }
+pub returns-in-None-clause-meaning : goal.returns-in-None-clause-meaning
+returns-in-None-clause-meaning c = meant c.args.nodes.now (Ok tt) (search rules)
 
-pub returns-in-Some : goal.returns-in-Some
-returns-in-Some c =
-    let v : Err c.into.result ≡ tested c.args.nodes.now = search rules in
-    record { verdict = v; meaning = meant c.args.nodes.now (Err c.into.result) v }
+pub returns-in-Some-clause-meaning : goal.returns-in-Some-clause-meaning
+returns-in-Some-clause-meaning c = meant c.args.nodes.now (Err c.into.result) (search rules)

@@ -1,5 +1,5 @@
 -- The levels left fall.
-use Rattle.checker.proofs.typing.+type_of.Given as goal
+use Rattle.checker.proofs.typing.Scope.+type_of.Given as goal
 
 abbrev pub decreases-type_of : goal.decreases-type_of
 decreases-type_of l = l.levels
