@@ -1,5 +1,5 @@
 -- The node that a line writes, or why it is none. Assumes nothing.
-use Rattle.std.specs.Prelude.{◌≡◌, ℕ, List, [], ◌∷◌, ℤ, pos, negsuc, ◌≤ℤ◌, Some, None, Ok, Err, codes, Option, Result, unsigned_abs}
+use Rattle.std.specs.Prelude.{ℕ, List, [], ◌∷◌, ℤ, pos, negsuc, ◌≤ℤ◌, Some, None, Ok, Err, codes, Option, Result, unsigned_abs}
 use Rattle.procedure.specs.Sequence.{and_then}
 use Rattle.procedure.specs.declared.node.Node.{Node}
 use Rattle.files.specs.declared.number.NumberFault.{NumberFault}
