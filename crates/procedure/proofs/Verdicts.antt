@@ -1,10 +1,10 @@
 -- What the verdict of the form test means.
-use Rattle.std.proofs.Common.{◌≡◌, ℕ, ◌<◌, ◌≤◌, Bool, true, false, cond, length, Some, None, Option, sym, refl, subst, arith, MatchResult}
+use Rattle.std.proofs.Common.{◌≡◌, ℕ, ◌<◌, ◌≤◌, Bool, true, false, cond, length, Some, None, Option, sym, refl, subst, arith, MatchOption, MatchResult}
 use Rattle.std.specs.Option.{option_or}
 use Rattle.procedure.specs.declared.form.FormFault.{FormFault}
 use Rattle.procedure.specs.declared.form.FormFault.TheVariants.{Bulky, Broken}
 use Rattle.procedure.specs.declared.rules.Rule.{Rule}
-use Rattle.procedure.specs.Form.{lowest, is_bulky, too_deep, refusal_of, verdict_on, tested}
+use Rattle.procedure.specs.Form.{lowest, is_bulky, too_deep, form_fault, refusal_of, verdict_on, tested}
 use Rattle.procedure.specs.Formed.{Formed, Lowest, MisshapenAt, by_rule, by_depth, Deserved, bulky, misshapen}
 use Rattle.procedure.specs.Level.{level}
 use Rattle.procedure.specs.Limits.{node_limit, level_limit}
@@ -57,3 +57,14 @@ judged_size t false e = let s = some_of t e in judged_rules t s.0 s.1 (lowest (b
 -- The form test passes what has the form of a procedure, and its refusals are deserved.
 pub judged : (t : Table) → MatchResult (tested t) (λ _. Formed t) (Deserved t)
 judged t = judged_size t (is_bulky t) refl
+
+-- the same of the fault that is found, if any
+abbrev pub Meant : Table → Option FormFault → Type 0
+Meant t fault = MatchOption fault (Formed t) (λ f. Deserved t (refusal_of f))
+
+meant_by : (t : Table) (o : Option FormFault) → Judged t o → Meant t o
+meant_by t None p = p
+meant_by t (Some f) p = p
+
+pub meant : (t : Table) (o : Option FormFault) → o ≡ form_fault t → Meant t o
+meant t o e = subst (Meant t) (sym e) (meant_by t (form_fault t) (judged t))

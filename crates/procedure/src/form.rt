@@ -1,5 +1,5 @@
 //! The form test.
-ghost use Rattle.std.specs.Prelude.{◌≡◌, ℕ, ◌<◌, length, MatchResult, slice_index};
+ghost use Rattle.std.specs.Prelude.{◌≡◌, ℕ, ◌<◌, length, MatchOption, MatchResult, slice_index};
 ghost use Rattle.std.specs.Option.{option_or};
 ghost use Rattle.procedure.specs.Form.{fault_at, lowest, deep_rule, too_deep, is_bulky, form_fault, tested, refusal_of};
 ghost use Rattle.procedure.specs.Formed.{Formed, Deserved};
@@ -82,6 +82,7 @@ pub fn is_bulky(nodes: &[Node]) -> bool
 /// What a table lacks of the form of a procedure: the rule that its lowest broken node breaks.
 pub fn find_form_fault(nodes: &[Node]) -> Option<FormFault>
     ensures fault { result ≡ form_fault nodes.now }
+    ensures meaning { MatchOption result (Formed nodes.now) (λ fault. Deserved nodes.now (refusal_of fault)) }
 {
     if is_bulky(nodes) {
         return Some(FormFault::Bulky);

@@ -71,12 +71,12 @@ impl TryFrom<u8> for Kind {
     }
 }
 
-/// The word for the kind.
-impl fmt::Display for Kind {
-    ghost output = { λ kind. Some (kind_word kind) };
-
-    fn fmt<W: fmt::Write>(&self, f: &mut fmt::Formatter<W>) -> fmt::Result {
-        f.write_str(match self {
+impl Kind {
+    /// The word for the kind.
+    pub fn word(self) -> &'static str
+        ensures worded { result.now ≡ kind_word self }
+    {
+        match self {
             Kind::Procedure => "procedure",
             Kind::Declaration(DeclarationKind::Parameter) => "parameter",
             Kind::Declaration(DeclarationKind::Variable) => "variable",
@@ -92,6 +92,15 @@ impl fmt::Display for Kind {
             Kind::Expression(ExpressionKind::Name) => "name",
             Kind::Expression(ExpressionKind::Unary) => "unary",
             Kind::Expression(ExpressionKind::Binary) => "binary",
-        })
+        }
+    }
+}
+
+/// As its word.
+impl fmt::Display for Kind {
+    ghost output = { λ kind. Some (kind_word kind) };
+
+    fn fmt<W: fmt::Write>(&self, f: &mut fmt::Formatter<W>) -> fmt::Result {
+        f.write_str(self.word())
     }
 }

@@ -52,6 +52,30 @@ impl Reason {
         }
     }
 
+    /// The word that stands for the reason.
+    pub fn word(self) -> &'static str
+        ensures worded { result.now ≡ (told self).word }
+    {
+        match self {
+            Reason::Bulky => "bulky",
+            Reason::Misshapen => "misshapen",
+            Reason::Taken => "taken",
+            Reason::Unmarked => "unmarked",
+            Reason::Unknown => "unknown",
+            Reason::Mismatched => "mismatched",
+            Reason::Fixed => "fixed",
+            Reason::Overlong => "overlong",
+            Reason::Cramped => "cramped",
+            Reason::Miscounted => "miscounted",
+            Reason::Unfit => "unfit",
+            Reason::Short => "short",
+            Reason::Overdrawn => "overdrawn",
+            Reason::Over => "over",
+            Reason::Absent => "absent",
+            Reason::Unset => "unset",
+        }
+    }
+
     /// What the reason means, in a sentence.
     pub fn sentence(self) -> &'static str
         ensures explained { result.now ≡ (told self).sentence }
@@ -85,29 +109,12 @@ impl Reason {
     }
 }
 
-/// The word that stands for the reason.
+/// As its word.
 impl fmt::Display for Reason {
     ghost output = { λ x. Some (told x).word };
 
     fn fmt<W: fmt::Write>(&self, f: &mut fmt::Formatter<W>) -> fmt::Result {
-        f.write_str(match self {
-            Reason::Bulky => "bulky",
-            Reason::Misshapen => "misshapen",
-            Reason::Taken => "taken",
-            Reason::Unmarked => "unmarked",
-            Reason::Unknown => "unknown",
-            Reason::Mismatched => "mismatched",
-            Reason::Fixed => "fixed",
-            Reason::Overlong => "overlong",
-            Reason::Cramped => "cramped",
-            Reason::Miscounted => "miscounted",
-            Reason::Unfit => "unfit",
-            Reason::Short => "short",
-            Reason::Overdrawn => "overdrawn",
-            Reason::Over => "over",
-            Reason::Absent => "absent",
-            Reason::Unset => "unset",
-        })
+        f.write_str(self.word())
     }
 }
 

@@ -1,5 +1,6 @@
 //! What `station form` and `station check` tell of a table.
-ghost use Rattle.std.specs.Prelude.{◌≡◌, Some};
+ghost use Rattle.std.specs.Prelude.{◌≡◌, Some, MatchResult};
+ghost use Rattle.procedure.specs.Formed.{Formed as HasForm, Deserved};
 ghost use Rattle.station.specs.Report.{form_report, refused_for, formed_text, rule_line, check_report, passed_text, kind_line, refused_text};
 
 use checker::{Declaration, Sheet, check};
@@ -79,6 +80,7 @@ impl From<FormFault> for Refused<BrokenRule> {
 /// The form test, and the rule that is broken.
 pub fn report_form(nodes: &[Node]) -> Result<Formed, Refused<BrokenRule>>
     ensures reported { result ≡ form_report nodes.now }
+    ensures meaning { MatchResult result (λ _. HasForm nodes.now) (λ refused. Deserved nodes.now refused.refusal) }
 {
     // What was searched for is the error here.
     match find_form_fault(nodes) {
