@@ -5,10 +5,11 @@ use Rattle.std.specs.Option.{IfSome}
 use Rattle.std.specs.Fn.{CalledAt}
 use Rattle.std.specs.Iterator.{YieldsFirstBy, YieldsFirstRef, YieldsThen, FindsItem, MakesProgress, item_count}
 use Rattle.std.proofs.lemmas.List.{take_all, drop_all}
+use Rattle.std.proofs.lemmas.Bool.{cond_both}
 use denote.Param.Members.{Mut}
 use Rattle.files.specs.declared.scan.Separator.{Separator}
 use Rattle.files.specs.declared.scan.Pieces.{Pieces}
-use Rattle.files.specs.Scan.{Bytes, cuts, before, behind, pieces, filled, pieces_left}
+use Rattle.files.specs.Scan.{Bytes, cuts, before, behind, pieces, filled, pieces_left, GivesPiece}
 
 take-one : (n b : ℕ) (bs : Bytes) → take (1 + n) (b ∷ bs) ≡ b ∷ take n bs
 take-one n b bs = let one : 1 + n ≡ suc n = omega arith in rw one
@@ -37,6 +38,17 @@ pieces_step s [] some = absurd (omega arith)
 pieces_step s (b ∷ []) some = grind arith
 pieces_step s (b ∷ c ∷ bs) some = let again = pieces_step s (c ∷ bs) (omega arith) in grind arith
 
+behind-within : (s : Separator) (bs : Bytes) → length (behind s bs) ≤ length bs
+behind-within s [] = omega arith
+behind-within s (b ∷ bs) =
+    cond_both (cuts s b) bs (behind s bs) (λ rest. length rest ≤ length (b ∷ bs)) (λ _. omega arith) (λ _. omega (arith, behind-within s bs))
+
+-- what stands behind the first piece is shorter
+pub behind_shorter : (s : Separator) (bs : Bytes) → 0 < length bs → length (behind s bs) < length bs
+behind_shorter s [] some = absurd (omega arith)
+behind_shorter s (b ∷ bs) some =
+    cond_both (cuts s b) bs (behind s bs) (λ rest. length rest < length (b ∷ bs)) (λ _. omega arith) (λ _. omega (arith, behind-within s bs))
+
 -- where the first of the items left is given, fewer are left
 pub goes_on : {S A B : Type 0} {can : S → Type 0} (view : A → B) (rest : S → List B) → ((t : S) → can t) → (s : S) (r : Option A) (t : S) → YieldsFirstBy view rest s r t → MakesProgress can (item_count rest) s r t
 goes_on view rest can s None t none = record { on = λ _. tt; keeps = tt; rests = λ _. tt }
@@ -53,9 +65,9 @@ filled_empty (b ∷ w) ws none = absurd (omega arith)
 abbrev WordsFrom : Pieces → Option (Bor Bytes) → Pieces → Type 0
 WordsFrom = YieldsFirstRef (λ p. filled (pieces_left p))
 
--- the first piece that is not empty is the first word
+-- the first piece that is not empty is the first word, and the others are cut at the same sign
 module _ {F : Type 0} (g : Mut F (Bor (Bor Bytes) × Unit {0}) Bool) (f : F) (tells : (x : Bor Bytes) (b : Bool) (q : F) → CalledAt g f x b q → (q ≡ f) × (b ≡ not (nat_eq (length x.now) 0))) where
-  pub finds_word : (s u : Pieces) (r : Option (Bor Bytes)) → FindsItem (YieldsFirstRef pieces_left) g s f r u → WordsFrom s r u
+  pub finds_word : (s u : Pieces) (r : Option (Bor Bytes)) → FindsItem GivesPiece g s f r u → WordsFrom s r u × (u.separator ≡ s.separator)
   finds_word s u r found = from found.0 s found.1 f refl found.2 found.3 found.4
     where
       last : (r : Option (Bor Bytes)) (s : Pieces) → YieldsFirstRef pieces_left s r u → IfSome r (λ x. (h : F) × CalledAt g f x true h) → WordsFrom s r u
@@ -67,12 +79,13 @@ module _ {F : Type 0} (g : Mut F (Bor (Bor Bytes) × Unit {0}) Bool) (f : F) (te
       onward : (a b : Pieces) → filled (pieces_left a) ≡ filled (pieces_left b) → WordsFrom b r u → WordsFrom a r u
       onward a b same rest = rw same rest
 
-      from : (xs : List (Bor Bytes)) (s : Pieces) (h p : F) → p ≡ f → YieldsThen (YieldsFirstRef pieces_left) s xs r u → FoldsTo (λ p x q. CalledAt g p x false q) p xs h → IfSome r (λ x. (k : F) × CalledAt g h x true k) → WordsFrom s r u
+      from : (xs : List (Bor Bytes)) (s : Pieces) (h p : F) → p ≡ f → YieldsThen GivesPiece s xs r u → FoldsTo (λ p x q. CalledAt g p x false q) p xs h → IfSome r (λ x. (k : F) × CalledAt g h x true k) → WordsFrom s r u × (u.separator ≡ s.separator)
       from [] s h p same runs calls passes =
           let here : s ≡ runs.0 = runs.1 in
           let unmoved : h ≡ f = sym calls ∙ same in
-          last r s (rw here runs.2) (rw (← unmoved) passes)
+          (last r s (rw here runs.2.0) (rw (← unmoved) passes), runs.2.1 ∙ ap (λ (p : Pieces). p.separator) (sym here))
       from (x ∷ xs) s h p same runs calls passes =
           let told = tells x false calls.0 (rw (← same) calls.1) in
-          let skipped : filled (pieces_left s) ≡ filled (pieces_left runs.1.0) = ap filled runs.1.1 ∙ filled_empty x.now _ (grind arith) in
-          onward s runs.1.0 skipped (from xs runs.1.0 h calls.0 told.0 (runs.0, runs.1.2, runs.2) calls.2 passes)
+          let skipped : filled (pieces_left s) ≡ filled (pieces_left runs.1.0) = ap filled runs.1.1.0 ∙ filled_empty x.now _ (grind arith) in
+          let later = from xs runs.1.0 h calls.0 told.0 (runs.0, runs.1.2, runs.2) calls.2 passes in
+          (onward s runs.1.0 skipped later.0, later.1 ∙ runs.1.1.1)

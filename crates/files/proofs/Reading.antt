@@ -1,12 +1,12 @@
 -- A procedure read line by line. Assumes nothing.
-use Rattle.std.proofs.Common.{◌≡◌, ℕ, ◌+◌, ◌≤◌, List, [], ◌∷◌, ◌++◌, length, Ok, Err, Option, Result, refl, ◌∙◌, append_assoc, arith}
+use Rattle.std.proofs.Common.{◌≡◌, ℕ, ◌+◌, ◌≤◌, List, [], ◌∷◌, ◌++◌, length, Some, Ok, Err, Option, Result, sym, refl, ◌∙◌, append_assoc, arith}
 use Rattle.std.specs.Option.{option_to_list}
 use Rattle.std.proofs.lemmas.Bool.{cond_both}
 use Rattle.procedure.specs.declared.node.Node.{Node}
 use Rattle.files.specs.declared.file.FaultyLine.{FaultyLine}
 use Rattle.files.specs.declared.scan.Separator.{Separator}
 use Rattle.files.specs.declared.scan.Separator.TheVariants.{LineEnd}
-use Rattle.files.specs.Scan.{Bytes, cuts, onto, pieces, lines_of}
+use Rattle.files.specs.Scan.{Bytes, cuts, onto, pieces, lines_of, first}
 use Rattle.procedure.specs.Sequence.{and_then}
 use Rattle.files.specs.Line.{line_read}
 use Rattle.files.specs.File.{at_line, lines_read, procedure_read}
@@ -34,6 +34,14 @@ none_read text nodes number lines none zero all = record { said = rw (none, zero
     whole : (r : Result (List Node) FaultyLine) → and_then r (λ more. Ok ([] ++ more)) ≡ r
     whole (Ok more) = refl
     whole (Err fault) = refl
+
+-- the fault of the next line is the fault of the text
+pub line_fault : {text : Bytes} {nodes : List Node} {number : ℕ} (lines : List Bytes) (line : Bytes) (fault : FaultyLine) → Sofar text nodes number lines → Some line ≡ first lines
+    → at_line (number + 1) (line_read line) ≡ Err fault → procedure_read text ≡ Err fault
+line_fault [] line fault sofar next is = let no : ◌≡◌ {A = ℕ} 0 1 = cc in absurd (omega arith)
+line_fault {number = number} (l ∷ lines) line fault sofar next is =
+    let same : at_line (number + 1) (line_read l) ≡ Err fault = cc in
+    sym sofar.said ∙ rw same refl
 
 module _ {text : Bytes} {nodes : List Node} {number : ℕ} (lines : List Bytes) (line : Bytes) (left : List Bytes) (sofar : Sofar text nodes number lines) (next : lines ≡ line ∷ left) where
   pub line_added : (after : List Node) → and_then (at_line (number + 1) (line_read line)) (λ node. Ok (nodes ++ option_to_list node)) ≡ Ok after → Sofar text after (number + 1) left

@@ -1,5 +1,7 @@
 -- What a text is cut into: its lines, and the words of a line. Assumes nothing.
-use Rattle.std.specs.Prelude.{ℕ, Bool, cond, ◌||◌, List, [], ◌∷◌, Some, None, Option, ◌==◌}
+use Rattle.std.specs.Prelude.{◌≡◌, ℕ, Bool, cond, ◌||◌, List, [], ◌∷◌, Some, None, Option, ◌==◌}
+use Rattle.std.specs.Iterator.{YieldsFirstRef}
+use denote.Ref.{Bor}
 use Rattle.files.specs.declared.scan.Separator.{Separator}
 use Rattle.files.specs.declared.scan.Separator.TheVariants.{Blank, LineEnd, CommentSign}
 use Rattle.files.specs.declared.scan.Pieces.{Pieces}
@@ -54,6 +56,10 @@ words_of_line line = words_of (before CommentSign line)
 -- what a scanner has still to give
 abbrev pub pieces_left : Pieces → List Bytes
 pieces_left p = pieces p.separator p.rest.now
+
+-- the first piece left is given, and the others are cut at the same sign
+abbrev pub GivesPiece : Pieces → Option (Bor Bytes) → Pieces → Type 0
+GivesPiece p r q = YieldsFirstRef pieces_left p r q × (q.separator ≡ p.separator)
 
 abbrev pub lines_left : Lines → List Bytes
 lines_left l = pieces_left l.pieces

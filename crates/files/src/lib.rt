@@ -12,6 +12,7 @@
 //! read with `Lines`, `Words` and `read_number`.
 #![tactic(auto)]
 
+mod cut;
 pub mod file;
 pub mod line;
 pub mod message;

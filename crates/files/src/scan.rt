@@ -1,19 +1,22 @@
 //! What a text is cut into: its lines, and the words of a line.
 ghost use Rattle.std.specs.Prelude.{◌≡◌};
-ghost use Rattle.std.specs.Iterator.{YieldsFirstRef, item_count};
-ghost use Rattle.files.specs.Scan.{cuts, before, behind, lines_of, words_of_line, pieces_left, lines_left, words_left};
+ghost use Rattle.files.specs.declared.scan.Separator.TheVariants.{LineEnd, Blank};
+
+use crate::cut::cut_once;
 
 /// A sign at which a text is cut.
 #[derive(Clone, Copy, PartialEq, Eq, Debug)]
-enum Separator {
+pub(crate) enum Separator {
     Blank,
     LineEnd,
     CommentSign,
 }
 
 impl Separator {
+    ghost use Rattle.files.specs.Scan.{cuts};
+
     /// Whether the byte is such a sign.
-    fn is(self, byte: u8) -> bool
+    pub(crate) fn is(self, byte: u8) -> bool
         ensures tells { result ≡ cuts self byte }
     {
         match self {
@@ -21,17 +24,6 @@ impl Separator {
             Separator::LineEnd => byte == b'\n',
             Separator::CommentSign => byte == b'#',
         }
-    }
-}
-
-/// What stands before the first separator, and what stands behind it.
-fn cut_once(text: &[u8], separator: Separator) -> (&[u8], &[u8])
-    ensures front { result.0.now ≡ before separator text.now }
-    ensures back { result.1.now ≡ behind separator text.now }
-{
-    match text.iter().position(|byte| separator.is(*byte)) {
-        Some(i) => (&text[..i], &text[i + 1..]),
-        None => (text, &[]),
     }
 }
 
@@ -43,9 +35,12 @@ struct Pieces<'a> {
 }
 
 impl<'a> Iterator for Pieces<'a> {
+    ghost use Rattle.std.specs.Iterator.{item_count};
+    ghost use Rattle.files.specs.Scan.{pieces_left, GivesPiece};
+
     type Item = &'a [u8];
 
-    ghost next_gives = { YieldsFirstRef pieces_left };
+    ghost next_gives = { GivesPiece };
 
     ghost remaining = { item_count pieces_left };
 
@@ -63,9 +58,12 @@ impl<'a> Iterator for Pieces<'a> {
 #[derive(Debug, Drop)]
 pub struct Lines<'a> {
     pieces: Pieces<'a>,
+    ghost by_lines: { pieces.separator ≡ LineEnd },
 }
 
 impl<'a> Lines<'a> {
+    ghost use Rattle.files.specs.Scan.{lines_of, lines_left};
+
     /// All the lines of a text.
     pub fn new(text: &'a [u8]) -> Lines<'a>
         ensures all_lines { lines_left result ≡ lines_of text.now }
@@ -79,6 +77,9 @@ impl<'a> Lines<'a> {
 }
 
 impl<'a> Iterator for Lines<'a> {
+    ghost use Rattle.std.specs.Iterator.{YieldsFirstRef, item_count};
+    ghost use Rattle.files.specs.Scan.{lines_left};
+
     type Item = &'a [u8];
 
     ghost next_gives = { YieldsFirstRef lines_left };
@@ -94,9 +95,12 @@ impl<'a> Iterator for Lines<'a> {
 #[derive(Debug, Drop)]
 pub struct Words<'a> {
     pieces: Pieces<'a>,
+    ghost by_words: { pieces.separator ≡ Blank },
 }
 
 impl<'a> Words<'a> {
+    ghost use Rattle.files.specs.Scan.{words_of_line, words_left};
+
     /// All the words of a line.
     pub fn new(line: &'a [u8]) -> Words<'a>
         ensures all_words { words_left result ≡ words_of_line line.now }
@@ -111,6 +115,9 @@ impl<'a> Words<'a> {
 }
 
 impl<'a> Iterator for Words<'a> {
+    ghost use Rattle.std.specs.Iterator.{YieldsFirstRef, item_count};
+    ghost use Rattle.files.specs.Scan.{words_left};
+
     type Item = &'a [u8];
 
     ghost next_gives = { YieldsFirstRef words_left };

@@ -5,7 +5,7 @@ use Rattle.std.proofs.lemmas.Iterator.{YieldsList-from_slice}
 use Rattle.std.proofs.lemmas.Iterator.Search.{position_from_yields_List}
 use Rattle.files.specs.Scan.{cuts}
 use Rattle.files.proofs.Cuts.{cut_here, cut_nowhere}
-use Rattle.files.proofs.scan.cut_once.Goals as goal
+use Rattle.files.proofs.cut.cut_once.Goals as goal
 
 pub returns-in-Some : goal.returns-in-Some
 returns-in-Some c =
