@@ -2,7 +2,7 @@
 ghost use Rattle.std.specs.Prelude.{◌≡◌};
 ghost use Rattle.port.specs.Meaning.{Meaning, get_answer, after_get, put_answer, after_put};
 
-use stack::Full;
+pub use stack::Full;
 
 /// A side that gives numbers, and a side that takes them.
 pub trait Port {
