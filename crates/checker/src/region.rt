@@ -10,7 +10,7 @@ use crate::open_declarations::OpenDeclarations;
 use stack::newest_named;
 
 /// The open declarations while a region is open, and how many there were when it was entered: at its end, on every way out, those
-/// are left. It is made where it is used: of a guard that a function hands out the caller does not learn what its end leaves.
+/// are left. It is made where it is used: the walks found no proof over a guard that a function hands out.
 pub struct RegionGuard<'r, 'a> {
     pub declared: &'r mut OpenDeclarations<'a>,
     pub entered: usize,
@@ -30,5 +30,5 @@ pub fn is_taken(declared: &[Declaration], base: usize, name: u16) -> bool
     requires within { base ≤ length declared.now }
     ensures taken { result ≡ is_taken name (length declared.now - base) (newest (length declared.now) declared.now) }
 {
-    newest_named(declared, name).is_some_and(|i| base <= i)
+    newest_named(&declared[base..], name).is_some()
 }
