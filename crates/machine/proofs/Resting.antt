@@ -36,3 +36,7 @@ going_past m n t s u e p h =
 pub going-none : (t : Table) (s : State) → going 0 t s ≡ s
 unfolding going
 going-none t s = refl
+
+pub going_one_more : (n : ℕ) (t : Table) (s : State) → going (n + 1) t s ≡ advanced t (going n t s)
+unfolding going
+going_one_more n t s = simp unary_clauses

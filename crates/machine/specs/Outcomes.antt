@@ -1,5 +1,5 @@
 -- How a run stands, and what each fault of a step makes of it. Assumes nothing.
-use Rattle.std.specs.Prelude.{ℕ, Bool, true, false, List, codes}
+use Rattle.std.specs.Prelude.{ℕ, Bool, true, false, List, Some, None, Option, codes}
 use Rattle.evaluator.specs.Faults.{number_of_fault}
 use Rattle.evaluator.specs.declared.fault.ExpressionFault.{ExpressionFault}
 use Rattle.evaluator.specs.declared.fault.ExpressionFault.TheVariants.{Arithmetic, NoPart, NoRow, Unsuited, TooDeep}
@@ -40,6 +40,11 @@ number_of NoTarget = 11
 number_of WrongType = 12
 number_of RowsFull = 13
 number_of FramesFull = 14
+
+-- the number of a run's cause, 0 where it has not failed
+abbrev pub cause_number : Option StepFault → ℕ
+cause_number None = 0
+cause_number (Some fault) = number_of fault
 
 abbrev pub ending : Outcome → StepFault → ℕ → Ending
 ending o c n = record { outcome = o; cause = c; node = n }

@@ -24,14 +24,12 @@ impl Outcome {
     {
         self == Outcome::Paused
     }
-}
 
-/// The word that stands for the outcome.
-impl fmt::Display for Outcome {
-    ghost output = { λ o. Some (outcome_word o) };
-
-    fn fmt<W: fmt::Write>(&self, f: &mut fmt::Formatter<W>) -> fmt::Result {
-        let word = match self {
+    /// The word that stands for the outcome.
+    pub fn word(self) -> &'static str
+        ensures worded { result.now ≡ outcome_word self }
+    {
+        match self {
             Outcome::Paused => "PAUSED",
             Outcome::Done => "DONE",
             Outcome::NumericError => "NUMERIC_ERROR",
@@ -40,7 +38,15 @@ impl fmt::Display for Outcome {
             Outcome::UseError => "USE_ERROR",
             Outcome::Stuck => "STUCK",
             Outcome::StorageError => "STORAGE_ERROR",
-        };
-        f.write_str(word)
+        }
+    }
+}
+
+/// As its word.
+impl fmt::Display for Outcome {
+    ghost output = { λ o. Some (outcome_word o) };
+
+    fn fmt<W: fmt::Write>(&self, f: &mut fmt::Formatter<W>) -> fmt::Result {
+        f.write_str(self.word())
     }
 }

@@ -1,4 +1,7 @@
 //! How far a run has come.
+ghost use Rattle.std.specs.Prelude.{◌≡◌};
+ghost use Rattle.machine.specs.Outcomes.{cause_number};
+
 use crate::fault::StepFault;
 use crate::outcome::Outcome;
 
@@ -13,4 +16,16 @@ pub struct Progress {
     pub steps: u64,
     pub reads: u64,
     pub writes: u64,
+}
+
+impl Progress {
+    /// The number that tells the cause, 0 where the run has not failed.
+    pub fn cause_number(self) -> u8
+        ensures numbered { result ≡ cause_number self.cause }
+    {
+        match self.cause {
+            Some(fault) => fault.number(),
+            None => 0,
+        }
+    }
 }
