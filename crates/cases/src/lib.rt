@@ -30,15 +30,19 @@ pub fn read_case_line(line: &str) -> CaseLine<'_>
     }
 }
 
+/// What is told of each case. A trait and no closure, since a closure may ask something of those who call it.
+pub trait Report {
+    /// Prints the report on a case, which shows this and has these nodes.
+    fn report(&mut self, shown: &str, nodes: &[Node]) -> io::Result<()>;
+}
+
 /// Reports on each case of the file, by what it shows and its nodes; one that shows nothing is passed over. A line that is no node
 /// is told beneath its case.
-pub fn report_cases<F: FnMut(&str, &[Node]) -> io::Result<()>>(
+pub fn report_cases(
     rt: &(impl Files + Print + AllocGlobal),
     path: &str,
-    mut report: F,
-) -> io::Result<()>
-    requires callable { F.IsAlwaysCallable report }
-{
+    reporter: &mut impl Report,
+) -> io::Result<()> {
     let text = fs::read_to_string(rt, path)?;
     let mut nodes = Vec::new(rt.alloc());
     let mut shown = "";
@@ -46,7 +50,7 @@ pub fn report_cases<F: FnMut(&str, &[Node]) -> io::Result<()>>(
         match read_case_line(line) {
             CaseLine::Begins(next) => {
                 if !shown.is_empty() {
-                    report(shown, nodes.as_slice())?;
+                    reporter.report(shown, nodes.as_slice())?;
                 }
                 nodes.clear();
                 shown = next;
@@ -57,7 +61,7 @@ pub fn report_cases<F: FnMut(&str, &[Node]) -> io::Result<()>>(
         }
     }
     if !shown.is_empty() {
-        report(shown, nodes.as_slice())?;
+        reporter.report(shown, nodes.as_slice())?;
     }
     Ok(())
 }

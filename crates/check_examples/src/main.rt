@@ -6,7 +6,7 @@
 
 mod shown;
 
-use cases::report_cases;
+use cases::{Report, report_cases};
 use checker::{Declaration, check};
 use procedure::Node;
 use procedure::limits::MAX_OPEN;
@@ -14,14 +14,22 @@ use std::io;
 
 fn main(rt: HostRuntime) -> io::Result<()> {
     shown::check_examples_stand();
-    report_cases(&rt, "check.txt", |shown, nodes| report(&rt, shown, nodes))
+    report_cases(&rt, "check.txt", &mut Check { rt: &rt })
 }
 
-/// Prints the report on a case.
-fn report(rt: &HostRuntime, shown: &str, nodes: &[Node]) -> io::Result<()> {
-    let mut places = [Declaration::BLANK; MAX_OPEN];
-    match check(nodes, &mut places) {
-        Ok(sheet) => println!(rt; "{shown}: passed: {sheet}"),
-        Err(refusal) => println!(rt; "{shown}: refused: {refusal}"),
+/// Tells what the check answers.
+#[derive(Drop)]
+struct Check<'a> {
+    rt: &'a HostRuntime,
+}
+
+impl Report for Check<'_> {
+    fn report(&mut self, shown: &str, nodes: &[Node]) -> io::Result<()> {
+        let rt = self.rt;
+        let mut places = [Declaration::BLANK; MAX_OPEN];
+        match check(nodes, &mut places) {
+            Ok(sheet) => println!(rt; "{shown}: passed: {sheet}"),
+            Err(refusal) => println!(rt; "{shown}: refused: {refusal}"),
+        }
     }
 }

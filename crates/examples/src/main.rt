@@ -5,25 +5,33 @@
 //! print.
 #![tactic(auto)]
 
-use cases::report_cases;
+use cases::{Report, report_cases};
 use procedure::{FormFault, Node, find_form_fault};
 use std::io;
 
 fn main(rt: HostRuntime) -> io::Result<()> {
-    report_cases(&rt, "form.txt", |shown, nodes| report(&rt, shown, nodes))
+    report_cases(&rt, "form.txt", &mut FormTest { rt: &rt })
 }
 
-/// Prints the report on a case.
-fn report(rt: &HostRuntime, shown: &str, nodes: &[Node]) -> io::Result<()> {
-    match find_form_fault(nodes) {
-        None => {
-            let count = nodes.len();
-            println!(rt; "{shown}: formed {count}")
-        }
-        Some(FormFault::Bulky) => println!(rt; "{shown}: bulky 0"),
-        Some(FormFault::Broken(rule, node)) => {
-            let word = rule.word();
-            println!(rt; "{shown}: {word} {node}")
+/// Tells what the form test finds.
+#[derive(Drop)]
+struct FormTest<'a> {
+    rt: &'a HostRuntime,
+}
+
+impl Report for FormTest<'_> {
+    fn report(&mut self, shown: &str, nodes: &[Node]) -> io::Result<()> {
+        let rt = self.rt;
+        match find_form_fault(nodes) {
+            None => {
+                let count = nodes.len();
+                println!(rt; "{shown}: formed {count}")
+            }
+            Some(FormFault::Bulky) => println!(rt; "{shown}: bulky 0"),
+            Some(FormFault::Broken(rule, node)) => {
+                let word = rule.word();
+                println!(rt; "{shown}: {word} {node}")
+            }
         }
     }
 }
