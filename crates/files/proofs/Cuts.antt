@@ -3,7 +3,7 @@ use Rattle.std.proofs.Common.{◌≡◌, ℕ, suc, ◌+◌, ◌<◌, ◌≤◌, 
 use Rattle.std.specs.List.{position, position_or_len, before_first, after_first, FoldsTo}
 use Rattle.std.specs.Option.{IfSome}
 use Rattle.std.specs.Fn.{CalledAt}
-use Rattle.std.specs.Iterator.{YieldsFirstBy, YieldsFirstRef, YieldsThen, FindsItem, MakesProgress, item_count}
+use Rattle.std.specs.Iterator.{Yields, YieldsFirstBy, YieldsFirstRef, YieldsThen, FindsItem, MakesProgress, item_count}
 use Rattle.std.proofs.lemmas.List.{take_all, drop_all}
 use Rattle.std.proofs.lemmas.Bool.{cond_both}
 use denote.Param.Members.{Mut}
@@ -65,9 +65,14 @@ filled_empty (b ∷ w) ws none = absurd (omega arith)
 abbrev WordsFrom : Pieces → Option (Bor Bytes) → Pieces → Type 0
 WordsFrom = YieldsFirstRef (λ p. filled (pieces_left p))
 
--- the first piece that is not empty is the first word, and the others are cut at the same sign
+-- pieces that each leave the sign as it was are pieces, and all of them leave it so
+run_at_sign : (xs : List (Bor Bytes)) (s t : Pieces) → Yields GivesPiece s xs t → Yields (YieldsFirstRef pieces_left) s xs t × (t.separator ≡ s.separator)
+run_at_sign [] s t same = (same, ap (λ (p : Pieces). p.separator) (sym same))
+run_at_sign (x ∷ xs) s t run = let later = run_at_sign xs run.0 t run.2 in ((run.0, run.1.0, later.0), later.1 ∙ run.1.1)
+
+-- the first piece that is not empty is the first word
 module _ {F : Type 0} (g : Mut F (Bor (Bor Bytes) × Unit {0}) Bool) (f : F) (tells : (x : Bor Bytes) (b : Bool) (q : F) → CalledAt g f x b q → (q ≡ f) × (b ≡ not (nat_eq (length x.now) 0))) where
-  pub finds_word : (s u : Pieces) (r : Option (Bor Bytes)) → FindsItem GivesPiece g s f r u → WordsFrom s r u × (u.separator ≡ s.separator)
+  pub finds_word : (s u : Pieces) (r : Option (Bor Bytes)) → FindsItem (YieldsFirstRef pieces_left) g s f r u → WordsFrom s r u
   finds_word s u r found = from found.0 s found.1 f refl found.2 found.3 found.4
     where
       last : (r : Option (Bor Bytes)) (s : Pieces) → YieldsFirstRef pieces_left s r u → IfSome r (λ x. (h : F) × CalledAt g f x true h) → WordsFrom s r u
@@ -79,13 +84,18 @@ module _ {F : Type 0} (g : Mut F (Bor (Bor Bytes) × Unit {0}) Bool) (f : F) (te
       onward : (a b : Pieces) → filled (pieces_left a) ≡ filled (pieces_left b) → WordsFrom b r u → WordsFrom a r u
       onward a b same rest = rw same rest
 
-      from : (xs : List (Bor Bytes)) (s : Pieces) (h p : F) → p ≡ f → YieldsThen GivesPiece s xs r u → FoldsTo (λ p x q. CalledAt g p x false q) p xs h → IfSome r (λ x. (k : F) × CalledAt g h x true k) → WordsFrom s r u × (u.separator ≡ s.separator)
+      from : (xs : List (Bor Bytes)) (s : Pieces) (h p : F) → p ≡ f → YieldsThen (YieldsFirstRef pieces_left) s xs r u → FoldsTo (λ p x q. CalledAt g p x false q) p xs h → IfSome r (λ x. (k : F) × CalledAt g h x true k) → WordsFrom s r u
       from [] s h p same runs calls passes =
           let here : s ≡ runs.0 = runs.1 in
           let unmoved : h ≡ f = sym calls ∙ same in
-          (last r s (rw here runs.2.0) (rw (← unmoved) passes), runs.2.1 ∙ ap (λ (p : Pieces). p.separator) (sym here))
+          last r s (rw here runs.2) (rw (← unmoved) passes)
       from (x ∷ xs) s h p same runs calls passes =
           let told = tells x false calls.0 (rw (← same) calls.1) in
-          let skipped : filled (pieces_left s) ≡ filled (pieces_left runs.1.0) = ap filled runs.1.1.0 ∙ filled_empty x.now _ (grind arith) in
-          let later = from xs runs.1.0 h calls.0 told.0 (runs.0, runs.1.2, runs.2) calls.2 passes in
-          (onward s runs.1.0 skipped later.0, later.1 ∙ runs.1.1.1)
+          let skipped : filled (pieces_left s) ≡ filled (pieces_left runs.1.0) = ap filled runs.1.1 ∙ filled_empty x.now _ (grind arith) in
+          onward s runs.1.0 skipped (from xs runs.1.0 h calls.0 told.0 (runs.0, runs.1.2, runs.2) calls.2 passes)
+
+  -- where each piece leaves the sign as it was, so do the pieces up to the first word
+  pub finds_word_at_sign : (s u : Pieces) (r : Option (Bor Bytes)) → FindsItem GivesPiece g s f r u → WordsFrom s r u × (u.separator ≡ s.separator)
+  finds_word_at_sign s u r found =
+      let run = run_at_sign found.0 s found.2.0 found.2.1 in
+      (finds_word s u r (found.0, found.1, (found.2.0, run.0, found.2.2.0), found.3, found.4), found.2.2.1 ∙ run.1)
