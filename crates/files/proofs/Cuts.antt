@@ -65,10 +65,10 @@ filled_empty (b ∷ w) ws none = absurd (omega arith)
 abbrev WordsFrom : Pieces → Option (Bor Bytes) → Pieces → Type 0
 WordsFrom = YieldsFirstRef (λ p. filled (pieces_left p))
 
--- pieces that each leave the sign as it was are pieces, and all of them leave it so
-run_at_sign : (xs : List (Bor Bytes)) (s t : Pieces) → Yields GivesPiece s xs t → Yields (YieldsFirstRef pieces_left) s xs t × (t.separator ≡ s.separator)
-run_at_sign [] s t same = (same, ap (λ (p : Pieces). p.separator) (sym same))
-run_at_sign (x ∷ xs) s t run = let later = run_at_sign xs run.0 t run.2 in ((run.0, run.1.0, later.0), later.1 ∙ run.1.1)
+-- a run of calls that each leave the sign as it was gives the pieces, and leaves the sign so
+run_keeping_sign : (xs : List (Bor Bytes)) (s t : Pieces) → Yields GivesPiece s xs t → Yields (YieldsFirstRef pieces_left) s xs t × (t.separator ≡ s.separator)
+run_keeping_sign [] s t same = (same, ap (λ (p : Pieces). p.separator) (sym same))
+run_keeping_sign (x ∷ xs) s t run = let later = run_keeping_sign xs run.0 t run.2 in ((run.0, run.1.0, later.0), later.1 ∙ run.1.1)
 
 -- the first piece that is not empty is the first word
 module _ {F : Type 0} (g : Mut F (Bor (Bor Bytes) × Unit {0}) Bool) (f : F) (tells : (x : Bor Bytes) (b : Bool) (q : F) → CalledAt g f x b q → (q ≡ f) × (b ≡ not (nat_eq (length x.now) 0))) where
@@ -94,8 +94,8 @@ module _ {F : Type 0} (g : Mut F (Bor (Bor Bytes) × Unit {0}) Bool) (f : F) (te
           let skipped : filled (pieces_left s) ≡ filled (pieces_left runs.1.0) = ap filled runs.1.1 ∙ filled_empty x.now _ (grind arith) in
           onward s runs.1.0 skipped (from xs runs.1.0 h calls.0 told.0 (runs.0, runs.1.2, runs.2) calls.2 passes)
 
-  -- where each piece leaves the sign as it was, so do the pieces up to the first word
-  pub finds_word_at_sign : (s u : Pieces) (r : Option (Bor Bytes)) → FindsItem GivesPiece g s f r u → WordsFrom s r u × (u.separator ≡ s.separator)
-  finds_word_at_sign s u r found =
-      let run = run_at_sign found.0 s found.2.0 found.2.1 in
+  -- the same of calls that each leave the sign as it was: the word is found, and the sign is as it was
+  pub finds_word_keeping_sign : (s u : Pieces) (r : Option (Bor Bytes)) → FindsItem GivesPiece g s f r u → WordsFrom s r u × (u.separator ≡ s.separator)
+  finds_word_keeping_sign s u r found =
+      let run = run_keeping_sign found.0 s found.2.0 found.2.1 in
       (finds_word s u r (found.0, found.1, (found.2.0, run.0, found.2.2.0), found.3, found.4), found.2.2.1 ∙ run.1)
